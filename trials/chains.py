@@ -90,12 +90,13 @@ def parts_of(snapshot):
 
 def changes(before, after):
     """What stands in the file of changes from one snapshot to the next."""
-    _, _, old = parts_of(before)
+    _, marks_before, old = parts_of(before)
+    parent = marks_before[0][:32] if marks_before else bytes(32)
     head, marks, new = parts_of(after)
     left = [row for name, row in sorted(new.items()) if old.get(name) != row]
     gone = sorted(set(old) - set(new))
     return b''.join([head, struct.pack('<I', 1), marks[0], struct.pack('<I', len(left)), *left,
-                     before[8:16], struct.pack('<I', len(gone)), *gone])
+                     before[8:16], parent, struct.pack('<I', len(gone)), *gone])
 
 
 def files_of(every, snapshots, records, micros):

@@ -248,10 +248,10 @@ module _ (ledger : Ledger) (block : BlockValue) (after : Snapshot) (micros : ℕ
       full_newest crashed head after.slot after (after_full head.every count some full) (ap (state_in after.slot) there ∙ state_again after.slot after is has refl)
   newest_then false other crashed agree there =
       let so = opened_so disk ledger opens.same in
-      let read = ap (changes_in after.slot ledger.newest.slot) there
-      ∙ changes_again after.slot ledger.newest.slot (changes_between ledger.newest after)
+      let read = ap (changes_in after.slot ledger.newest) there
+      ∙ changes_again after.slot ledger.newest (changes_between ledger.newest after)
       (readable ledger.newest after was is) (widths ledger.newest after was is has)
-      (few_keys ledger.newest after was is) (gone_keys ledger.newest after was is had) had.slot refl in
+      (few_keys ledger.newest after was is) (gone_keys ledger.newest after was is had) had refl in
       changed_newest crashed head after.slot (after_other head.every count some other)
       ∙ ap (λ (r : Result Snapshot LedgerFault). r >>= stepped crashed after.slot) (agreed_state_after after.slot crashed disk head count agree later ∙ so.newest_read)
       ∙ ap (λ (r : Result Changes LedgerFault). r >>= λ c. next_of after.slot c ledger.newest) read

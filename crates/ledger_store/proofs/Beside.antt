@@ -5,6 +5,8 @@ use Rattle.std.specs.Option.{option_or}
 use Rattle.std.specs.Arc.{arc_value}
 use Rattle.spec_base.specs.Faults.{Rose}
 use Rattle.spec_base.specs.Reading.{◌>>=◌, Gives}
+use Rattle.sol_base.specs.declared.key.Hash32.{Hash32}
+use Rattle.status_cache.specs.Recent.{newest_of}
 use Rattle.snapshot_codec.specs.declared.snapshot.Snapshot.{Snapshot}
 use Rattle.snapshot_codec.specs.Snapshot.{HasWidths}
 use Rattle.spec_base.proofs.Binding.{bind_ok, ok_same}
@@ -23,7 +25,8 @@ use Rattle.ledger_store.specs.Faults.{LedgerCounts, found_or, is_failed, is_free
 use Rattle.ledger_store.specs.Seal.{body_of, is_sealed, seal_at, unsealed}
 use Rattle.ledger_store.specs.States.{state_from, state_in, whole_state}
 use Rattle.ledger_store.specs.declared.changes.Changes.{Changes as Changed}
-use Rattle.ledger_store.specs.Changes.{changes_from, next_of, whole_changes}
+use Rattle.ledger_store.specs.declared.changes.Linked.{Linked}
+use Rattle.ledger_store.specs.Changes.{changes_from, linked_in, next_of, over, whole_changes}
 use Rattle.ledger_store.specs.Ahead.{files_of, found_in, stepped_by, told_by, walked_by}
 use Rattle.ledger_store.specs.Opening.{full_before, full_state, slot_after, slots_behind, state_after, stepped, walked}
 use Rattle.ledger_store.specs.Reading.{IsOpen, Tells, TellsListed, heading}
@@ -118,10 +121,10 @@ watched_state file slot bytes told name holds gives =
 
 -- what a block changed
 abbrev changed : ℕ → List ℕ → Snapshot → Result Snapshot LedgerFault
-changed slot file before = whole_changes slot before.slot (unsealed file) >>= λ changes. next_of slot changes before
+changed slot file before = whole_changes slot before.slot (newest_of before.recent) (unsealed file) >>= λ changes. next_of slot changes before
 
 sealed_changes : (slot : ℕ) (bytes : List ℕ) (before : Snapshot) (seal : Bool) → is_sealed bytes ≡ seal
-    → (changes_from slot before.slot bytes >>= λ changes. next_of slot changes before) ≡ told_unless (if seal then None else Some (Damaged (Changes slot) (seal_at bytes))) (changed slot bytes before)
+    → (changes_from slot before.slot (newest_of before.recent) bytes >>= λ changes. next_of slot changes before) ≡ told_unless (if seal then None else Some (Damaged (Changes slot) (seal_at bytes))) (changed slot bytes before)
 unfolding changes_from body_of
 sealed_changes slot bytes before true e = rw e refl
 sealed_changes slot bytes before false e = rw e refl
@@ -139,10 +142,21 @@ gives_then {X = X} {Y = Y} (Err e) answer (Err f) more h g = by_test (is_ledger_
         let faults : e ≡ f = cc in
         let read : answer ≡ Err e = subst (λ (b : Bool). MatchBool b (Unit {0}) (answer ≡ Err e)) (ap is_ledger_memory faults ∙ is) h in ap (λ (r : Result X LedgerFault). r >>= more) read ∙ same
 
+itself : {X : Type 0} (told : Result X LedgerFault) → Gives is_ledger_memory (λ x. x) told told
+itself (Ok x) = refl
+itself {X = X} (Err e) = same_refusal {X = X} (is_ledger_memory e) (Err e)
+
+-- what a file tells, over the block before it
+pub over_gives : (slot before : ℕ) (parent : Hash32) (file : List ℕ) (read : Result Linked LedgerFault) (told : Result Changed LedgerFault)
+    → Gives is_ledger_memory (λ l. l) read (linked_in slot before file) → told ≡ (read >>= over slot parent) → Gives is_ledger_memory (λ c. c) told (whole_changes slot before parent file)
+unfolding whole_changes
+over_gives slot before parent file read told gives same =
+    gives_then read (linked_in slot before file) told (over slot parent) gives (subst (λ (r : Result Changed LedgerFault). Gives is_ledger_memory (λ (c : Changed). c) told r) same (itself told))
+
 pub watched_changes : (file : Watched) (slot : ℕ) (bytes : List ℕ) (before : Snapshot)
     (read : Result Changed LedgerFault) (told : Result Snapshot LedgerFault) → file.name ≡ Changes slot
     → arc_value file.bytes ≡ bytes
-    → Gives is_ledger_memory (λ c. c) read (whole_changes slot before.slot (unsealed bytes)) → Gives is_ledger_memory (λ s. s) told (read >>= λ changes. next_of slot changes before)
+    → Gives is_ledger_memory (λ c. c) read (whole_changes slot before.slot (newest_of before.recent) (unsealed bytes)) → Gives is_ledger_memory (λ s. s) told (read >>= λ changes. next_of slot changes before)
     → Gives is_free (λ s. s) (told_unless (unsealed_fault file) told) (stepped_by (slot, Some bytes) before)
 watched_changes file slot bytes before read told name holds gives next =
     let first : Option LedgerFault = if is_sealed bytes then None else Some (Damaged (Changes slot) (seal_at bytes)) in
@@ -150,7 +164,7 @@ watched_changes file slot bytes before read told name holds gives next =
     ap (λ (l : List ℕ). if is_sealed l then None else Some (Damaged file.name (seal_at l))) holds ∙ ap (λ (n : Name). if is_sealed bytes then None else Some (Damaged n (seal_at bytes))) name in
     let whole : stepped_by (slot, Some bytes) before ≡ told_unless first (changed slot bytes before) = sealed_changes slot bytes before (is_sealed bytes) refl in
     let both : Gives is_ledger_memory (λ (s : Snapshot). s) told (changed slot bytes before) = gives_then read
-    (whole_changes slot before.slot (unsealed bytes)) told (λ changes. next_of slot changes before) gives
+    (whole_changes slot before.slot (newest_of before.recent) (unsealed bytes)) told (λ changes. next_of slot changes before) gives
     next in
     subst (λ (o : Option LedgerFault). Gives is_free (λ (s : Snapshot). s) (told_unless o told) (stepped_by (slot, Some bytes) before)) (sym own)
     (subst (λ (r : Result Snapshot LedgerFault). Gives is_free (λ (s : Snapshot). s) (told_unless first told) r)

@@ -1,5 +1,5 @@
 -- Files are read as they are written.
-use Rattle.std.proofs.Common.{◌≡◌, ◌<◌, ◌≤◌, ◌^◌, ◌==◌, ℕ, List, [], ◌++◌, length, take, drop, true, if◌then◌else◌, Some, Ok, Err, refl, sym, ◌∙◌, ap, subst, arith, append_assoc, codes, length-append, take_at, drop_at, eq-eqb, le-leb, nat_le, bytes_eq}
+use Rattle.std.proofs.Common.{◌≡◌, ◌<◌, ◌≤◌, ◌^◌, ◌==◌, ℕ, All, List, [], ◌∷◌, ◌++◌, length, take, drop, true, if◌then◌else◌, Some, Ok, Err, refl, sym, ◌∙◌, ap, subst, arith, append_assoc, codes, length-append, take_at, drop_at, eq-eqb, le-leb, nat_le, bytes_eq}
 use Rattle.std.specs.Int.{w32, w64, to_le_bytes}
 use Rattle.std.specs.List.{AllByRecursion, flat_map}
 use Rattle.std.proofs.lemmas.List.{append-nil}
@@ -7,10 +7,16 @@ use Rattle.std.proofs.lemmas.Slice.Eq.{bytes_eq-Decides}
 use Rattle.std.proofs.lemmas.Bool.{cond-true}
 use Rattle.sha2.specs.Sha256.{sha256}
 use Rattle.sha2.proofs.Facts256.{length-sha256}
+use Rattle.spec_base.specs.Reading.{place}
 use Rattle.spec_base.proofs.Formats.{field_reads, read_if_reads, u32_reads, u64_reads, many_reads}
+use Rattle.std.proofs.lemmas.List.Elements.{All-head}
+use Rattle.sol_base.specs.declared.key.Hash32.{Hash32}
 use Rattle.sol_base.specs.declared.key.Key.{Key}
-use Rattle.sol_base.specs.Keys.{IsKey, key_bytes}
-use Rattle.format_fields.proofs.FieldLaws.{key_reads}
+use Rattle.sol_base.specs.Keys.{IsHash, IsKey, hash_bytes, key_bytes}
+use Rattle.sol_base.proofs.KeyLaws.{same_hash-Decides}
+use Rattle.format_fields.proofs.FieldLaws.{hash_reads, key_reads}
+use Rattle.status_cache.specs.declared.recent.Mark.{Mark}
+use Rattle.status_cache.specs.Recent.{newest_of}
 use Rattle.snapshot_codec.specs.declared.snapshot.Snapshot.{Snapshot}
 use Rattle.snapshot_codec.specs.Snapshot.{snapshot_bytes, IsReadable, HasWidths}
 use Rattle.snapshot_codec.proofs.SnapshotLaws.{round_trips}
@@ -22,7 +28,7 @@ use Rattle.ledger_store.specs.declared.fault.LedgerFault.TheVariants.{Damaged}
 use Rattle.ledger_store.specs.Seal.{sealed, seal_at, body_of}
 use Rattle.ledger_store.specs.Heads.{every_at, head_at, head_bytes, head_from, head_in, head_of, magic_at}
 use Rattle.ledger_store.specs.States.{front_in, ok_at_slot, whole_state, state_from, state_in}
-use Rattle.ledger_store.specs.Changes.{before_at, gone_bytes, changes_bytes, gone_at, gone_of, whole_changes, changes_from, changes_in}
+use Rattle.ledger_store.specs.Changes.{before_at, behind_of, changes_bytes, changes_from, changes_in, gone_at, gone_bytes, linked_in, whole_changes}
 
 -- what is sealed has its own hash at its end
 pub unsealed : (name : Name) (body : List ℕ) → body_of name (sealed body) ≡ Ok body
@@ -50,30 +56,41 @@ state_again slot s is has e =
     subst (λ (b : List ℕ). front_in (State slot) b ≡ Ok (record { snapshot = s; length = length (snapshot_bytes s) })) (append-nil (snapshot_bytes s)) (front (State slot) s [] is has) in
     rw (unsealed (State slot) (snapshot_bytes s), begins, at_slot (State slot) slot s.slot s e, eq-eqb (length (snapshot_bytes s)) (length (snapshot_bytes s)) refl) refl
 
-gone_again : (before total : ℕ) (keys : List Key) → before < 2 ^ 64 → length keys < 2 ^ 32 → AllByRecursion IsKey keys → gone_of before total (to_le_bytes w64 before ++ gone_bytes keys) ≡ Ok keys
-unfolding gone_of gone_at before_at
-gone_again before total keys fits few are =
+behind_again : (before total : ℕ) (parent : Hash32) (keys : List Key) → before < 2 ^ 64 → IsHash parent → length keys < 2 ^ 32 → AllByRecursion IsKey keys
+    → behind_of before total (to_le_bytes w64 before ++ (hash_bytes parent ++ gone_bytes keys)) ≡ Ok (record { parent = parent; at = place total (hash_bytes parent ++ gone_bytes keys); gone = keys })
+unfolding behind_of gone_at before_at
+behind_again before total parent keys fits is few are =
     let behind : flat_map key_bytes keys ++ [] ≡ flat_map key_bytes keys = append-nil (flat_map key_bytes keys) in
     rw (
-      (read_if_reads Field (λ n. n == before) total (u64_reads Field total)).again before (gone_bytes keys)
+      (read_if_reads Field (λ n. n == before) total (u64_reads Field total)).again before (hash_bytes parent ++ gone_bytes keys)
           (fits, eq-eqb before before refl),
+      (hash_reads Field total).again parent (gone_bytes keys) is,
       (u32_reads Field total).again (length keys) (flat_map key_bytes keys)
           few,
       ← behind,
       (many_reads (key_reads Field total) (length keys)).again keys [] (refl, are),
     ) refl
 
-pub changes_again : (slot before : ℕ) (c : Changes) → IsReadable c.left → HasWidths c.left
-    → length c.gone < 2 ^ 32 → AllByRecursion IsKey c.gone → before < 2 ^ 64 → c.left.slot ≡ slot
-    → changes_in slot before (Some (sealed (changes_bytes before c))) ≡ Ok c
-unfolding changes_from whole_changes
-changes_again slot before c is has few are fits e =
+-- the hash of the newest block has 32 bytes, and so have zeros
+newest_is_hash : (marks : List Mark) → All (λ mark. IsHash mark.hash) marks → IsHash (newest_of marks)
+newest_is_hash [] all = refl
+newest_is_hash (mark ∷ marks) all = All-head (λ (m : Mark). IsHash m.hash) mark marks all
+
+pub changes_again : (slot : ℕ) (before : Snapshot) (c : Changes) → IsReadable c.left → HasWidths c.left
+    → length c.gone < 2 ^ 32 → AllByRecursion IsKey c.gone → HasWidths before → c.left.slot ≡ slot
+    → changes_in slot before (Some (sealed (changes_bytes before.slot (newest_of before.recent) c))) ≡ Ok c
+unfolding changes_from whole_changes linked_in
+changes_again slot before c is has few are was e =
+    let parent : Hash32 = newest_of before.recent in
+    let behind : List ℕ = to_le_bytes w64 before.slot ++ (hash_bytes parent ++ gone_bytes c.gone) in
+    let body : List ℕ = changes_bytes before.slot parent c in
     rw (
-      unsealed (changes_name slot) (changes_bytes before c),
-      front (changes_name slot) c.left (to_le_bytes w64 before ++ gone_bytes c.gone) is has,
+      unsealed (changes_name slot) body,
+      front (changes_name slot) c.left behind is has,
       at_slot (changes_name slot) slot c.left.slot c.left e,
-      drop_at (snapshot_bytes c.left) (to_le_bytes w64 before ++ gone_bytes c.gone) (length (snapshot_bytes c.left)) refl,
-      gone_again before (length (changes_bytes before c)) c.gone fits few are,
+      drop_at (snapshot_bytes c.left) behind (length (snapshot_bytes c.left)) refl,
+      behind_again before.slot (length body) parent c.gone was.slot (newest_is_hash before.recent was.hashes) few are,
+      (same_hash-Decides parent parent).1 refl,
     ) refl
 
 -- what a chain is

@@ -28,7 +28,7 @@ bind_same (Ok x) f g same = same x
 bind_same (Err e) f g same = refl
 
 same_stepped : (one other : Disk) (slot : ℕ) (before : Snapshot) → one (Changes slot) ≡ other (Changes slot) → stepped one slot before ≡ stepped other slot before
-same_stepped one other slot before same = ap (λ (found : Option (List ℕ)). changes_in slot before.slot found >>= λ changes. next_of slot changes before) same
+same_stepped one other slot before same = ap (λ (found : Option (List ℕ)). changes_in slot before found >>= λ changes. next_of slot changes before) same
 
 pub same_walked : (one other : Disk) (slots : List ℕ) (before : Snapshot)
     → AllByRecursion (λ slot. one (Changes slot) ≡ other (Changes slot)) slots

@@ -1,6 +1,7 @@
 -- A block that is added: the files that are put in their places, and what a crash leaves.
 use Rattle.std.specs.Prelude.{◌≡◌, ◌⊎◌, ℕ, ◌&&◌, nat_lt, Bool, false, List, [], ◌∷◌, ◌++◌, length, take, None, Some, if◌then◌else◌}
 use Rattle.std.specs.List.{list_all}
+use Rattle.status_cache.specs.Recent.{newest_of}
 use Rattle.snapshot_codec.specs.declared.snapshot.Snapshot.{Snapshot}
 use Rattle.snapshot_codec.specs.Snapshot.{snapshot_bytes}
 use Rattle.block_record.specs.declared.block.Block.{Block as BlockValue}
@@ -33,7 +34,8 @@ state_name full slot = if full then State slot else Changes slot
 
 abbrev pub state_body : Bool → Snapshot → Snapshot → List ℕ
 state_body full before after =
-    if full then snapshot_bytes after else changes_bytes before.slot (changes_between before after)
+    if full then snapshot_bytes after
+    else changes_bytes before.slot (newest_of before.recent) (changes_between before after)
 
 abbrev pub is_next_full : Ledger → Bool
 is_next_full ledger = is_full ledger.head.every (length ledger.head.slots)

@@ -26,7 +26,7 @@ files_of disk slots = map (λ slot. (slot, disk (Changes slot))) slots
 -- the snapshot after a block, from the one before it and the file of what the block changed
 abbrev pub stepped_by : ℕ × Option (List ℕ) → Snapshot → Result Snapshot LedgerFault
 stepped_by file before = do
-  changes ← changes_in file.0 before.slot file.1
+  changes ← changes_in file.0 before file.1
   next_of file.0 changes before
 
 -- the snapshot after a block, from the one before it and what was read of the file

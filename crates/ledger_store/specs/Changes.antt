@@ -5,18 +5,21 @@ use Rattle.std.specs.Int.{w32, w64, to_le_bytes}
 use Rattle.std.specs.List.{flat_map}
 use Rattle.std.specs.Cmp.Lexicographic.{pointwise}
 use Rattle.std.specs.FinMap as finite
-use Rattle.spec_base.specs.Reading.{◌>>=◌, number_at, many, ok_if, read_if, whole}
+use Rattle.spec_base.specs.Reading.{◌>>=◌, number_at, many, ok_if, place, read_if, whole}
 use Rattle.sol_base.specs.declared.key.Key.{Key}
+use Rattle.sol_base.specs.declared.key.Hash32.{Hash32}
 use Rattle.sol_base.specs.declared.account.Account.{Account}
-use Rattle.sol_base.specs.Keys.{key_bytes, same_key}
-use Rattle.format_fields.specs.Fields.{key_at}
+use Rattle.sol_base.specs.Keys.{hash_bytes, key_bytes, same_hash, same_key}
+use Rattle.format_fields.specs.Fields.{hash_at, key_at}
 use Rattle.status_cache.specs.declared.recent.Mark.{Mark}
-use Rattle.status_cache.specs.Recent.{max_marks}
+use Rattle.status_cache.specs.Recent.{max_marks, newest_of}
 use Rattle.account_store.specs.State.{State, entries, get, len, put, remove, sum}
 use Rattle.snapshot_codec.specs.declared.snapshot.Snapshot.{Snapshot}
 use Rattle.snapshot_codec.specs.Snapshot.{max_accounts, snapshot_bytes}
 use Rattle.ledger_folder.specs.declared.name.Name.TheVariants.{Changes as changes_name}
+use Rattle.ledger_store.specs.declared.changes.Behind.{Behind}
 use Rattle.ledger_store.specs.declared.changes.Changes.{Changes}
+use Rattle.ledger_store.specs.declared.changes.Linked.{Linked}
 use Rattle.ledger_store.specs.declared.fault.FieldFault.{FieldFault}
 use Rattle.ledger_store.specs.declared.fault.FieldFault.TheVariants.{Field}
 use Rattle.ledger_store.specs.declared.fault.LedgerFault.{LedgerFault}
@@ -62,10 +65,11 @@ changes_between before after = record {
 abbrev pub gone_bytes : List Key → List ℕ
 gone_bytes keys = to_le_bytes w32 (length keys) ++ flat_map key_bytes keys
 
--- with the slot before the block
-abbrev pub changes_bytes : ℕ → Changes → List ℕ
-changes_bytes before changes =
-    snapshot_bytes changes.left ++ (to_le_bytes w64 before ++ gone_bytes changes.gone)
+-- with the slot before the block, and the hash of the newest block there
+abbrev pub changes_bytes : ℕ → Hash32 → Changes → List ℕ
+changes_bytes before parent changes =
+    snapshot_bytes changes.left
+    ++ (to_le_bytes w64 before ++ (hash_bytes parent ++ gone_bytes changes.gone))
 
 unfoldable pub gone_at : ℕ → List ℕ → Result (List Key × List ℕ) FieldFault
 gone_at total bytes = do
@@ -77,28 +81,47 @@ unfoldable pub before_at : ℕ → ℕ → List ℕ → Result (ℕ × List ℕ)
 before_at before total bytes =
     read_if Field (λ n. n == before) (number_at Field w64 total) total bytes
 
-unfoldable pub gone_of : ℕ → ℕ → List ℕ → Result (List Key) FieldFault
-gone_of before total bytes = do
+-- what is behind the snapshot: the hash of the newest block before, with its place, and the keys
+unfoldable pub behind_of : ℕ → ℕ → List ℕ → Result Behind FieldFault
+behind_of before total bytes = do
   from ← before_at before total bytes
-  gone ← gone_at total from.1
-  whole Field total gone
+  parent ← hash_at Field total from.1
+  gone ← gone_at total parent.1
+  keys ← whole Field total gone
+  Ok (record { parent = parent.0; at = place total from.1; gone = keys })
 
-unfoldable pub whole_changes : ℕ → ℕ → List ℕ → Result Changes LedgerFault
-whole_changes slot before body = do
+unfoldable pub linked_in : ℕ → ℕ → List ℕ → Result Linked LedgerFault
+linked_in slot before body = do
   prefix ← front_in (changes_name slot) body
   left ← ok_at_slot (changes_name slot) slot prefix.snapshot.slot prefix.snapshot
-  gone ← or_fault (field_fault (changes_name slot)) (gone_of before (length body) (drop prefix.length body))
-  Ok (record { left = left; gone = gone })
+  behind ← or_fault (field_fault (changes_name slot)) (behind_of before (length body) (drop prefix.length body))
+  Ok (record { left = left; behind = behind })
 
--- the file
-unfoldable pub changes_from : ℕ → ℕ → List ℕ → Result Changes LedgerFault
-changes_from slot before file = do
+-- the changes, if the newest block before them is that one
+abbrev pub over : ℕ → Hash32 → Linked → Result Changes LedgerFault
+over slot parent linked =
+    ok_if (same_hash linked.behind.parent parent) (Damaged (changes_name slot) linked.behind.at)
+    (record { left = linked.left; gone = linked.behind.gone })
+
+-- those that were told
+abbrev pub told_over : ℕ → Hash32 → Result Linked LedgerFault → Result Changes LedgerFault
+told_over slot parent told = told >>= over slot parent
+
+unfoldable pub whole_changes : ℕ → ℕ → Hash32 → List ℕ → Result Changes LedgerFault
+whole_changes slot before parent body = do
+  linked ← linked_in slot before body
+  over slot parent linked
+
+-- the file, over the state of a slot and its newest block
+unfoldable pub changes_from : ℕ → ℕ → Hash32 → List ℕ → Result Changes LedgerFault
+changes_from slot before parent file = do
   body ← body_of (changes_name slot) file
-  whole_changes slot before body
+  whole_changes slot before parent body
 
-abbrev pub changes_in : ℕ → ℕ → Option (List ℕ) → Result Changes LedgerFault
+abbrev pub changes_in : ℕ → Snapshot → Option (List ℕ) → Result Changes LedgerFault
 changes_in slot before found =
-    found_or (Missing (changes_name slot)) found >>= changes_from slot before
+    found_or (Missing (changes_name slot)) found
+    >>= changes_from slot before.slot (newest_of before.recent)
 
 -- ---- put into a state
 -- accounts without those of the keys

@@ -24,7 +24,7 @@ slot_after head (suc n) = slice_index head.slots n
 -- the snapshot after the block of a slot
 abbrev pub stepped : Disk → ℕ → Snapshot → Result Snapshot LedgerFault
 stepped disk slot before = do
-  changes ← changes_in slot before.slot (disk (Changes slot))
+  changes ← changes_in slot before (disk (Changes slot))
   next_of slot changes before
 
 -- and after the blocks of several

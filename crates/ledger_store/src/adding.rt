@@ -70,7 +70,8 @@ fn kept_state(
     if full {
         state_file(alloc, after)
     } else {
-        changes_file(alloc, before.slot, &changes_between(alloc, before, after)?)
+        let changes = changes_between(alloc, before, after)?;
+        changes_file(alloc, before.slot, &before.recent.newest(), &changes)
     }
 }
 

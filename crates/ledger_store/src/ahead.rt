@@ -9,13 +9,13 @@ ghost use Rattle.ledger_folder.specs.Crash.{Shows};
 ghost use Rattle.ledger_folder.specs.declared.name.Name.TheVariants.{Changes as changes_name};
 ghost use Rattle.ledger_store.specs.Faults.{LedgerCounts, NeverFails, is_free, is_ledger_memory};
 ghost use Rattle.ledger_store.specs.Seal.{unsealed};
-ghost use Rattle.ledger_store.specs.Changes.{whole_changes};
+ghost use Rattle.ledger_store.specs.Changes.{told_over, whole_changes};
 ghost use Rattle.ledger_store.specs.Watching.{settled};
 ghost use Rattle.ledger_store.specs.Told.{IsTold};
 ghost use Rattle.ledger_store.specs.Adding.{OnlyReads};
 ghost use Rattle.ledger_store.specs.Ahead.{files_of, next_from, seen, stepped_by, walked_by};
 
-use crate::changes::Changes;
+use crate::changes::{Changes, Linked, over};
 use crate::fault::LedgerFault;
 use crate::next::next_of;
 use crate::reading::Reading;
@@ -23,7 +23,7 @@ use crate::seal::Watched;
 use crate::told::{Told, ToldOf, told_of};
 use ledger_folder::{Folder, Name};
 use snapshot_codec::Snapshot;
-use sol_base::{Blob, Items, OutOfMemory};
+use sol_base::{Blob, Hash32, Items, OutOfMemory};
 use std::alloc::Global;
 use std::snapshot::Snapshot as Seen;
 use std::sync::Arc;
@@ -61,16 +61,17 @@ impl Reading {
         })
     }
 
-    /// What the file holds, from the slot before the block, and the file with what was seen of its
-    /// hash: by the thread, or else here.
+    /// What the file holds, from the slot before the block and the newest block there, and the file
+    /// with what was seen of its hash: by the thread, or else here.
     fn told<T: Threads>(
         self,
         threads: &T,
         alloc: Global,
         before: u64,
+        parent: &Hash32,
     ) -> (Result<Changes, LedgerFault>, Watched)
         ensures gives { Gives is_ledger_memory (λ changes. changes) result.0
-            (whole_changes self.slot before (unsealed (arc_value self.bytes))) }
+            (whole_changes self.slot before parent.now (unsealed (arc_value self.bytes))) }
         ensures readable { IfOk result.0 (λ changes. IsReadable changes.left) }
         ensures widths { IfOk result.0 (λ changes. HasWidths changes.left) }
         ensures quiet { NeverFails result.0 }
@@ -83,15 +84,61 @@ impl Reading {
             bytes,
             child,
         } = self;
-        let Told { changes, sealed } = if from == before {
-            joined(threads, alloc, child, slot, before, bytes.as_slice())
-        } else {
-            told_of(alloc, slot, before, bytes.as_slice())
-        };
+        let Told { linked, sealed } = told_from(
+            threads,
+            alloc,
+            child,
+            slot,
+            from,
+            before,
+            bytes.as_slice(),
+        );
         (
-            changes,
+            over_told(slot, parent, linked),
             Watched::seen(Name::Changes { slot }, bytes, sealed),
         )
+    }
+}
+
+/// The changes that are told, if the newest block before them is that one.
+fn over_told(
+    slot: u64,
+    parent: &Hash32,
+    told: Result<Linked, LedgerFault>,
+) -> Result<Changes, LedgerFault>
+    requires readable { IfOk told (λ linked. IsReadable linked.left) }
+    requires widths { IfOk told (λ linked. HasWidths linked.left) }
+    requires quiet { NeverFails told }
+    ensures gives { result ≡ told_over slot parent.now told }
+    ensures readable { IfOk result (λ changes. IsReadable changes.left) }
+    ensures widths { IfOk result (λ changes. HasWidths changes.left) }
+    ensures quiet { NeverFails result }
+{
+    match told {
+        Ok(linked) => over(slot, parent, linked),
+        Err(fault) => Err(fault),
+    }
+}
+
+/// What the file tells from the slot before the block: what the thread tells, if it read from that slot.
+fn told_from<T: Threads>(
+    threads: &T,
+    alloc: Global,
+    child: Option<PromisedHandle<Told, ToldOf>>,
+    slot: u64,
+    from: u64,
+    before: u64,
+    bytes: &[u8],
+) -> Told
+    requires slot { ForSome child (λ h. h.promise.slot ≡ slot) }
+    requires from { ForSome child (λ h. h.promise.before ≡ from) }
+    requires bytes { ForSome child (λ h. arc_value h.promise.bytes.value ≡ bytes.now) }
+    ensures { IsTold slot before bytes.now result }
+{
+    if from == before {
+        joined(threads, alloc, child, slot, before, bytes)
+    } else {
+        told_of(alloc, slot, before, bytes)
     }
 }
 
@@ -209,7 +256,8 @@ fn step_by<T: Threads>(
         }),
         Ahead::Found(reading) => {
             let slot = reading.slot;
-            let both = reading.told(threads, alloc, before.slot);
+            let parent = before.recent.newest();
+            let both = reading.told(threads, alloc, before.slot, &parent);
             let (told, file) = both;
             let next = next_told(alloc, slot, told, before);
             files.push(file)?;

@@ -3,23 +3,23 @@ ghost use Rattle.std.specs.Prelude.{◌≡◌, ◌++◌, ◌<◌, ◌^◌, IfOk,
 ghost use Rattle.std.specs.Int.{w64, to_le_bytes};
 ghost use Rattle.std.specs.List.{flat_map};
 ghost use Rattle.spec_base.specs.Reading.{Gives};
-ghost use Rattle.sol_base.specs.Keys.{key_bytes};
+ghost use Rattle.sol_base.specs.Keys.{hash_bytes, key_bytes};
 ghost use Rattle.format_fields.specs.Output.{Adds};
 ghost use Rattle.snapshot_codec.specs.Snapshot.{HasWidths, IsReadable, IsWritable};
 ghost use Rattle.ledger_folder.specs.declared.name.Name.TheVariants.{Changes as changes_name};
 ghost use Rattle.ledger_store.specs.Faults.{LedgerCounts, NeverFails, field_fault, is_field_memory, is_ledger_memory, or_fault};
 ghost use Rattle.ledger_store.specs.Seal.{sealed};
-ghost use Rattle.ledger_store.specs.Changes.{before_at, changes_bytes, changes_from, changes_in, gone_at, gone_bytes, gone_of, whole_changes};
+ghost use Rattle.ledger_store.specs.Changes.{before_at, behind_of, changes_bytes, changes_from, changes_in, gone_at, gone_bytes, linked_in, over, whole_changes};
 ghost use Rattle.ledger_store.specs.Reading.{Tells};
 
 use crate::fault::{FieldFault, LedgerFault, field_fault};
 use crate::place::read_file;
 use crate::seal::{body_of, seal};
 use crate::state::{SLOT_PLACE, front_in};
-use format_fields::{ByteCount, Item, Output, key_field, read_many};
+use format_fields::{ByteCount, Item, Output, hash_field, key_field, read_many};
 use ledger_folder::{Folder, Name};
 use snapshot_codec::{Prefix, Snapshot, write_snapshot};
-use sol_base::{Blob, Items, Key, OutOfMemory};
+use sol_base::{Blob, Hash32, Items, Key, OutOfMemory};
 use spec_base::{place, u32_field, u64_field};
 use std::alloc::Global;
 
@@ -70,49 +70,68 @@ fn read_before(before: u64, total: usize, bytes: &[u8]) -> Result<(u64, &[u8]), 
     Ok((told, rest))
 }
 
-#[tactic(auto, unfolding(crate::specs::Changes::gone_of))]
-fn gone_of(alloc: Global, before: u64, total: usize, bytes: &[u8]) -> Result<Items<Key>, FieldFault>
-    ensures { Gives is_field_memory (λ x. x) result (gone_of before total bytes.now) }
+/// What is behind the snapshot in a file of changes.
+#[derive(Drop)]
+pub(crate) struct Behind {
+    /// The hash of the newest block of the state before.
+    parent: Hash32,
+    /// Its place.
+    at: usize,
+    gone: Items<Key>,
+}
+
+#[tactic(auto, unfolding(crate::specs::Changes::behind_of))]
+fn behind_of(alloc: Global, before: u64, total: usize, bytes: &[u8]) -> Result<Behind, FieldFault>
+    ensures { Gives is_field_memory (λ x. x) result (behind_of before total bytes.now) }
 {
     let (_told, rest) = read_before(before, total, bytes)?;
+    let at = place(total, rest);
+    let (parent, rest) = hash_field::<FieldFault>(total, rest)?;
     let (gone, rest) = read_gone(alloc, total, rest)?;
     if !rest.is_empty() {
         return Err(FieldFault::Field {
             at: place(total, rest),
         });
     }
-    Ok(gone)
+    Ok(Behind { parent, at, gone })
 }
 
-/// The keys behind the snapshot in a file's body.
-fn gone_in(
+/// What is behind the snapshot in a file's body.
+fn behind_in(
     alloc: Global,
     name: Name,
     before: u64,
     total: usize,
     bytes: &[u8],
-) -> Result<Items<Key>, LedgerFault>
+) -> Result<Behind, LedgerFault>
     ensures gives { Gives is_ledger_memory (λ x. x) result
-        (or_fault (field_fault name) (gone_of before total bytes.now)) }
+        (or_fault (field_fault name) (behind_of before total bytes.now)) }
     ensures quiet { NeverFails result }
 {
-    match gone_of(alloc, before, total, bytes) {
-        Ok(gone) => Ok(gone),
+    match behind_of(alloc, before, total, bytes) {
+        Ok(behind) => Ok(behind),
         Err(fault) => Err(field_fault(name, fault)),
     }
 }
 
-/// The changes of the slot's block, and nothing behind them.
-#[tactic(auto, unfolding(crate::specs::Changes::whole_changes))]
-pub(crate) fn whole_changes(
+/// What a file tells of a block's changes, whatever the newest block before them is.
+#[derive(Drop)]
+pub(crate) struct Linked {
+    left: Snapshot,
+    behind: Behind,
+}
+
+/// The changes of the slot's block from the slot before it, and nothing behind them.
+#[tactic(auto, unfolding(crate::specs::Changes::linked_in))]
+pub(crate) fn linked_in(
     alloc: Global,
     slot: u64,
     before: u64,
     body: &[u8],
-) -> Result<Changes, LedgerFault>
-    ensures gives { Gives is_ledger_memory (λ x. x) result (whole_changes slot before body.now) }
-    ensures readable { IfOk result (λ changes. IsReadable changes.left) }
-    ensures widths { IfOk result (λ changes. HasWidths changes.left) }
+) -> Result<Linked, LedgerFault>
+    ensures gives { Gives is_ledger_memory (λ x. x) result (linked_in slot before body.now) }
+    ensures readable { IfOk result (λ linked. IsReadable linked.left) }
+    ensures widths { IfOk result (λ linked. HasWidths linked.left) }
     ensures quiet { NeverFails result }
 {
     let name = Name::Changes { slot };
@@ -126,37 +145,88 @@ pub(crate) fn whole_changes(
             at: SLOT_PLACE,
         });
     }
-    let gone = gone_in(alloc, name, before, body.len(), &body[length..])?;
-    Ok(Changes { left, gone })
+    let behind = behind_in(alloc, name, before, body.len(), &body[length..])?;
+    Ok(Linked { left, behind })
+}
+
+/// The changes, if the newest block before them is that one.
+pub(crate) fn over(slot: u64, parent: &Hash32, linked: Linked) -> Result<Changes, LedgerFault>
+    ensures gives { result ≡ over slot parent.now linked }
+    ensures left { IfOk result (λ changes. changes.left ≡ linked.left) }
+    ensures quiet { NeverFails result }
+{
+    let Linked { left, behind } = linked;
+    if behind.parent != *parent {
+        return Err(LedgerFault::Damaged {
+            name: Name::Changes { slot },
+            at: behind.at,
+        });
+    }
+    Ok(Changes {
+        left,
+        gone: behind.gone,
+    })
+}
+
+/// The changes of the slot's block over the state of a slot and its newest block, and nothing behind them.
+#[tactic(auto, unfolding(crate::specs::Changes::whole_changes))]
+fn whole_changes(
+    alloc: Global,
+    slot: u64,
+    before: u64,
+    parent: &Hash32,
+    body: &[u8],
+) -> Result<Changes, LedgerFault>
+    ensures gives { Gives is_ledger_memory (λ x. x) result
+        (whole_changes slot before parent.now body.now) }
+    ensures readable { IfOk result (λ changes. IsReadable changes.left) }
+    ensures widths { IfOk result (λ changes. HasWidths changes.left) }
+    ensures quiet { NeverFails result }
+{
+    let linked = linked_in(alloc, slot, before, body)?;
+    over(slot, parent, linked)
 }
 
 /// What the block of a slot changed, as a file holds it.
 #[tactic(auto, unfolding(crate::specs::Changes::changes_from))]
-fn changes_from(alloc: Global, slot: u64, before: u64, bytes: &[u8]) -> Result<Changes, LedgerFault>
-    ensures gives { Gives is_ledger_memory (λ x. x) result (changes_from slot before bytes.now) }
+fn changes_from(
+    alloc: Global,
+    slot: u64,
+    before: u64,
+    parent: &Hash32,
+    bytes: &[u8],
+) -> Result<Changes, LedgerFault>
+    ensures gives { Gives is_ledger_memory (λ x. x) result
+        (changes_from slot before parent.now bytes.now) }
     ensures readable { IfOk result (λ changes. IsReadable changes.left) }
     ensures widths { IfOk result (λ changes. HasWidths changes.left) }
     ensures quiet { NeverFails result }
 {
     let body = body_of(Name::Changes { slot }, bytes)?;
-    whole_changes(alloc, slot, before, body)
+    whole_changes(alloc, slot, before, parent, body)
 }
 
-/// What the block of a slot changed.
+/// What the block of a slot changed, from the state before it.
 pub(crate) fn changes_at<F: Folder>(
     alloc: Global,
     folder: &mut F,
     slot: u64,
-    before: u64,
+    before: &Snapshot,
 ) -> Result<Changes, LedgerFault>
     ensures tells { Tells (F.events folder.old) (F.events folder.new) result
-        (λ disk. changes_in slot before (disk (changes_name slot))) }
+        (λ disk. changes_in slot before.now (disk (changes_name slot))) }
     ensures readable { IfOk result (λ changes. IsReadable changes.left) }
     ensures widths { IfOk result (λ changes. HasWidths changes.left) }
     ensures counts { LedgerCounts result (F.faults folder.old) (F.faults folder.new) }
 {
     let bytes = read_file(folder, Name::Changes { slot })?;
-    changes_from(alloc, slot, before, bytes.as_slice())
+    changes_from(
+        alloc,
+        slot,
+        before.slot,
+        &before.recent.newest(),
+        bytes.as_slice(),
+    )
 }
 
 fn write_keys<O: Output>(out: &mut O, keys: &[Key]) -> Result<(), OutOfMemory>
@@ -177,23 +247,44 @@ fn write_gone<O: Output>(out: &mut O, gone: &[Key]) -> Result<(), OutOfMemory>
     write_keys(out, gone)
 }
 
-/// The slot before the block, and the keys.
-fn write_behind<O: Output>(out: &mut O, before: u64, gone: &[Key]) -> Result<(), OutOfMemory>
+/// The hash of the newest block before, and the keys.
+fn write_linked<O: Output>(out: &mut O, parent: &Hash32, gone: &[Key]) -> Result<(), OutOfMemory>
     requires { length gone.now < 2 ^ 32 }
     ensures { OnOk result
-        (Adds O.holds out.old out.new (to_le_bytes w64 before ++ gone_bytes gone.now)) }
+        (Adds O.holds out.old out.new (hash_bytes parent.now ++ gone_bytes gone.now)) }
 {
-    out.append(&before.to_le_bytes())?;
+    out.append(&parent.0)?;
     write_gone(out, gone)
 }
 
-fn write_changes<O: Output>(out: O, before: u64, changes: &Changes) -> Result<O, OutOfMemory>
+/// The slot before the block, the hash of the newest block there, and the keys.
+fn write_behind<O: Output>(
+    out: &mut O,
+    before: u64,
+    parent: &Hash32,
+    gone: &[Key],
+) -> Result<(), OutOfMemory>
+    requires { length gone.now < 2 ^ 32 }
+    ensures { OnOk result (Adds O.holds out.old out.new
+        (to_le_bytes w64 before ++ (hash_bytes parent.now ++ gone_bytes gone.now))) }
+{
+    out.append(&before.to_le_bytes())?;
+    write_linked(out, parent, gone)
+}
+
+fn write_changes<O: Output>(
+    out: O,
+    before: u64,
+    parent: &Hash32,
+    changes: &Changes,
+) -> Result<O, OutOfMemory>
     requires writable { IsWritable changes.now.left }
     requires few { length changes.now.gone < 2 ^ 32 }
-    ensures { IfOk result (λ new. Adds O.holds out new (changes_bytes before changes.now)) }
+    ensures { IfOk result (λ new. Adds O.holds out new
+        (changes_bytes before parent.now changes.now)) }
 {
     let mut out = write_snapshot(out, &changes.left)?;
-    write_behind(&mut out, before, changes.gone.as_slice())?;
+    write_behind(&mut out, before, parent, changes.gone.as_slice())?;
     Ok(out)
 }
 
@@ -201,15 +292,17 @@ fn write_changes<O: Output>(out: O, before: u64, changes: &Changes) -> Result<O,
 pub(crate) fn changes_file(
     alloc: Global,
     before: u64,
+    parent: &Hash32,
     changes: &Changes,
 ) -> Result<Blob, OutOfMemory>
     requires writable { IsWritable changes.now.left }
     requires few { length changes.now.gone < 2 ^ 32 }
-    ensures { IfOk result (λ bytes. bytes ≡ sealed (changes_bytes before changes.now)) }
+    ensures { IfOk result (λ bytes. bytes
+        ≡ sealed (changes_bytes before parent.now changes.now)) }
 {
-    let count = write_changes(ByteCount(0), before, changes)?;
+    let count = write_changes(ByteCount(0), before, parent, changes)?;
     let out = Blob::with_capacity(alloc, count.0.saturating_add(32))?;
-    let mut out = write_changes(out, before, changes)?;
+    let mut out = write_changes(out, before, parent, changes)?;
     seal(&mut out)?;
     Ok(out)
 }

@@ -36,7 +36,7 @@ fn step<F: Folder>(
     ensures widths { HasWidths before → IfOk result HasWidths }
     ensures counts { LedgerCounts result (F.faults folder.old) (F.faults folder.new) }
 {
-    let changes = changes_at(alloc, folder, slot, before.slot)?;
+    let changes = changes_at(alloc, folder, slot, &before)?;
     next_of(alloc, slot, &changes, before)
 }
 

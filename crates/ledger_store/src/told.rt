@@ -1,7 +1,7 @@
 //! What is told of a file of what a block changed.
 ghost use Rattle.ledger_store.specs.Told.{IsTold};
 
-use crate::changes::{Changes, whole_changes};
+use crate::changes::{Linked, linked_in};
 use crate::fault::LedgerFault;
 use crate::seal::{is_sealed, unsealed};
 use sol_base::Blob;
@@ -13,7 +13,7 @@ use std::thread::Promise;
 /// What a file of changes holds, whatever the hash is that it ends in, and whether that is its hash.
 #[derive(Drop)]
 pub(crate) struct Told {
-    pub(crate) changes: Result<Changes, LedgerFault>,
+    pub(crate) linked: Result<Linked, LedgerFault>,
     pub(crate) sealed: bool,
 }
 
@@ -37,7 +37,7 @@ pub(crate) fn told_of(alloc: Global, slot: u64, before: u64, bytes: &[u8]) -> To
     ensures { IsTold slot before bytes.now result }
 {
     Told {
-        changes: whole_changes(alloc, slot, before, unsealed(bytes)),
+        linked: linked_in(alloc, slot, before, unsealed(bytes)),
         sealed: is_sealed(bytes),
     }
 }

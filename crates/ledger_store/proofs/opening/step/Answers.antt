@@ -9,5 +9,5 @@ returns-clause-tells g c =
     let before = c.args.before in
     let changes = c.in_ok-changes.changes in
     tells_then (g.F.Folder.events c.args.folder.now) (g.F.Folder.events c.changes_at.new.folder) (g.F.Folder.events c.changes_at.new.folder) changes c.next_of.result
-    (λ disk. changes_in slot before.slot (disk (Changes slot))) (λ disk found. next_of slot found before) c.in_ok-changes.ensures.tells
+    (λ disk. changes_in slot before (disk (Changes slot))) (λ disk found. next_of slot found before) c.in_ok-changes.ensures.tells
     (λ disk shows. (shows, freer c.next_of.result (next_of slot changes before) c.next_of.ensures.gives))
