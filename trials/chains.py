@@ -103,7 +103,7 @@ def files_of(every, snapshots, records, micros):
     """The files of a chain: snapshots from the first one on, and between them records with the
     microseconds of their runs."""
     start = struct.unpack_from('<Q', snapshots[0], 8)[0]
-    files = {'chain': sealed(b'SOLCHAN1' + struct.pack('<IQ', every, start)), named(start, 'state'): sealed(snapshots[0])}
+    files = {'chain': sealed(b'SOLCHAN2' + struct.pack('<IQ', every, start)), named(start, 'state'): sealed(snapshots[0])}
     for place, (record, took) in enumerate(zip(records, micros), 1):
         slot, = struct.unpack_from('<Q', snapshots[place], 8)
         files[named(slot, 'block')] = sealed(record + struct.pack('<Q', took))

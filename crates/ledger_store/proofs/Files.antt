@@ -97,14 +97,14 @@ changes_again slot before c is has few are was e =
 head_fields : (total every start : ℕ) → 1 ≤ every → every < 2 ^ 32 → start < 2 ^ 64 → head_at total (head_bytes every start) ≡ Ok ((every, start), [])
 unfolding head_at magic_at every_at
 head_fields total every start some few fits =
-    let front : head_bytes every start ≡ codes "SOLCHAN1" ++ (to_le_bytes w32 every ++ (to_le_bytes w64 start ++ [])) =
-    append_assoc (codes "SOLCHAN1") (to_le_bytes w32 every) (to_le_bytes w64 start)
-    ∙ ap (λ (l : List ℕ). codes "SOLCHAN1" ++ (to_le_bytes w32 every ++ l))
+    let front : head_bytes every start ≡ codes "SOLCHAN2" ++ (to_le_bytes w32 every ++ (to_le_bytes w64 start ++ [])) =
+    append_assoc (codes "SOLCHAN2") (to_le_bytes w32 every) (to_le_bytes w64 start)
+    ∙ ap (λ (l : List ℕ). codes "SOLCHAN2" ++ (to_le_bytes w32 every ++ l))
     (sym (append-nil (to_le_bytes w64 start))) in
     subst (λ (b : List ℕ). head_at total b ≡ Ok ((every, start), [])) (sym front)
     (rw (
-      (read_if_reads Field (λ (magic : List ℕ). bytes_eq magic (codes "SOLCHAN1")) total
-          (field_reads Field total 8)).again (codes "SOLCHAN1")
+      (read_if_reads Field (λ (magic : List ℕ). bytes_eq magic (codes "SOLCHAN2")) total
+          (field_reads Field total 8)).again (codes "SOLCHAN2")
           (to_le_bytes w32 every ++ (to_le_bytes w64 start ++ [])) (refl, refl),
       (read_if_reads Field (λ n. nat_le 1 n) total (u32_reads Field total)).again every (to_le_bytes w64 start ++ []) (few, le-leb 1 every some),
       (u64_reads Field total).again start [] fits,

@@ -22,6 +22,7 @@ abbrev pub is_ledger_memory : LedgerFault → Bool
 is_ledger_memory ledger.Failed = false
 is_ledger_memory (ledger.Missing _) = false
 is_ledger_memory (ledger.Damaged _ _) = false
+is_ledger_memory ledger.Earlier = false
 is_ledger_memory ledger.SlotNotLater = false
 is_ledger_memory ledger.Exists = false
 is_ledger_memory ledger.OutOfMemory = true
@@ -31,6 +32,7 @@ abbrev pub is_free : LedgerFault → Bool
 is_free ledger.Failed = true
 is_free (ledger.Missing _) = false
 is_free (ledger.Damaged _ _) = false
+is_free ledger.Earlier = false
 is_free ledger.SlotNotLater = false
 is_free ledger.Exists = false
 is_free ledger.OutOfMemory = true
@@ -40,6 +42,7 @@ abbrev pub is_failed : LedgerFault → Bool
 is_failed ledger.Failed = true
 is_failed (ledger.Missing _) = false
 is_failed (ledger.Damaged _ _) = false
+is_failed ledger.Earlier = false
 is_failed ledger.SlotNotLater = false
 is_failed ledger.Exists = false
 is_failed ledger.OutOfMemory = false

@@ -23,6 +23,11 @@ pub enum LedgerFault {
     /// not its hash, or the field at `at` is not in form.
     #[error("{name} is damaged at byte {at}")]
     Damaged { name: Name, at: usize },
+    /// The file that says what the chain is is of an earlier version.
+    #[error(
+        "the file chain is of an earlier version: `chain state` of the program that made it writes its newest state, and `chain new` begins a chain with that"
+    )]
+    Earlier,
     /// The slot of a block that is to be added is not above those of the chain.
     #[error("the slot is not after the chain's")]
     SlotNotLater,

@@ -5,7 +5,7 @@ ghost use Rattle.ledger_folder.specs.Files.{Disk, Lists};
 ghost use Rattle.ledger_folder.specs.Crash.{Shows};
 ghost use Rattle.ledger_store.specs.Faults.{LedgerCounts, NeverFails, is_field_memory, is_ledger_memory};
 ghost use Rattle.ledger_store.specs.Seal.{sealed};
-ghost use Rattle.ledger_store.specs.Heads.{every_at, head_at, head_bytes, head_from, head_of, magic_at};
+ghost use Rattle.ledger_store.specs.Heads.{every_at, head_at, head_bytes, head_from, head_of, is_earlier, magic_at};
 ghost use Rattle.ledger_store.specs.Adding.{OnlyReads};
 ghost use Rattle.ledger_store.specs.Reading.{TellsListed, heading};
 
@@ -18,7 +18,10 @@ use spec_base::{array_field, place, u32_field, u64_field};
 use std::alloc::Global;
 
 /// What the file begins with.
-const MAGIC: [u8; 8] = *b"SOLCHAN1";
+const MAGIC: [u8; 8] = *b"SOLCHAN2";
+
+/// What the file of an earlier version begins with.
+const EARLIER_MAGIC: [u8; 8] = *b"SOLCHAN1";
 
 /// What a chain is by its names: after how many blocks a full state is kept, the slot of the
 /// snapshot that it starts with, and the slots of its blocks, ascending.
@@ -93,6 +96,13 @@ pub(crate) fn head_file(alloc: Global, every: u32, start: u64) -> Result<Blob, O
     Ok(out)
 }
 
+/// Whether it is the file of an earlier version.
+fn is_earlier(body: &[u8]) -> bool
+    ensures { result ≡ is_earlier body.now }
+{
+    body.starts_with(&EARLIER_MAGIC)
+}
+
 /// What the file's fields are.
 #[tactic(auto, unfolding(crate::specs::Heads::head_from))]
 fn head_from(bytes: &[u8]) -> Result<(u32, u64), LedgerFault>
@@ -101,6 +111,9 @@ fn head_from(bytes: &[u8]) -> Result<(u32, u64), LedgerFault>
     ensures every { IfOk result (λ fields. 1 ≤ fields.0) }
 {
     let body = body_of(Name::Chain, bytes)?;
+    if is_earlier(body) {
+        return Err(LedgerFault::Earlier);
+    }
     match read_whole(body) {
         Ok(fields) => Ok(fields),
         Err(fault) => Err(field_fault(Name::Chain, fault)),
