@@ -6,7 +6,7 @@ use crate::chain::{OpenChain, copied, open_chain, state_after, unread};
 use crate::failures::caused;
 use command_parts::{Answer, Given, INPUT_REFUSED, WRITE_FAILED, noted, written};
 use ledger_folder::{Failure, Folder};
-use ledger_store::{Changes, Head, Kept, LedgerFault, changes_between, next_state, read_block};
+use ledger_store::{Changes, Head, Kept, LedgerFault, changes_between, next_state, read_next_block};
 use ledger_tables::{
     BlockRows, TablesFault, account_rows, add_accounts, add_block, add_indexes, add_tables,
     block_rows,
@@ -82,7 +82,7 @@ fn rows_at<F: Folder>(
     ensures { IfOk result (λ both. IsReadable both.1) }
 {
     let slot = head.slots.as_slice()[place];
-    let kept = read_block(alloc, files, slot)?;
+    let kept = read_next_block(alloc, files, slot, &before.recent.newest())?;
     let start = copied(alloc, &before)?;
     let after = next_state(alloc, files, head, place, before)?;
     let rows = rows_between(alloc, &start, &kept, &after)?;

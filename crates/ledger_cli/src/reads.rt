@@ -1,14 +1,16 @@
 //! The commands `state`, `block` and `list`.
-ghost use Rattle.std.specs.Prelude.{◌≤◌};
+ghost use Rattle.std.specs.Prelude.{◌≤◌, IfOk};
+ghost use Rattle.block_record.specs.Record.{IsCounted};
 
 use crate::chain::{OpenChain, no_block, open_chain, state_after, unread};
 use crate::lines::append_listed;
 use block_record::record_bytes;
 use command_parts::{Answer, Given, written};
 use ledger_folder::Folder;
-use ledger_store::{Head, Kept, LedgerFault, read_block};
+use ledger_store::{Head, Kept, LedgerFault, read_block, read_next_block};
 use snapshot_codec::{readable_snapshots_are_writable, snapshot_bytes};
-use sol_base::{Blob, OutOfMemory};
+use sol_base::{Blob, Hash32, OutOfMemory};
+use std::alloc::Global;
 use std::rt::Files;
 
 /// How many blocks are up to the state of a slot: that of a block, or the one that the chain begins
@@ -86,6 +88,21 @@ pub(crate) fn block<R: Files + AllocGlobal + Clone + Drop>(
     block_in(rt, folder, &mut chain, slot)
 }
 
+/// The block of a slot, which is over the one before it, if that was read.
+fn block_behind<F: Folder>(
+    alloc: Global,
+    files: &mut F,
+    slot: u64,
+    before: Option<&Hash32>,
+) -> Result<Kept, LedgerFault>
+    ensures { IfOk result (λ kept. IsCounted kept.block) }
+{
+    match before {
+        Some(hash) => read_next_block(alloc, files, slot, hash),
+        None => read_block(alloc, files, slot),
+    }
+}
+
 /// A line for each block.
 fn lines<R: Files + AllocGlobal + Clone + Drop>(
     rt: &R,
@@ -93,9 +110,11 @@ fn lines<R: Files + AllocGlobal + Clone + Drop>(
 ) -> Result<Blob, LedgerFault> {
     let alloc = rt.alloc();
     let mut out = Blob::new(alloc);
+    let mut before = None;
     for slot in chain.head.slots.as_slice() {
-        let Kept { block, micros } = read_block(alloc, &mut chain.files, *slot)?;
+        let Kept { block, micros } = block_behind(alloc, &mut chain.files, *slot, before.as_ref())?;
         append_listed(alloc, &mut out, &block, micros)?;
+        before = Some(block.hash);
     }
     Ok(out)
 }

@@ -6,7 +6,7 @@ ghost use Rattle.snapshot_codec.specs.Snapshot.{IsReadable};
 use crate::chain::{copied, state_after};
 use bank_lanes::OpenGate;
 use block_record::Block;
-use block_replay::{Field, Verdict, compare};
+use block_replay::{Field, OF_BLOCK, Verdict, compare};
 use block_run::run_listed;
 use ledger_folder::{Failure, Folder, StdFolder};
 use ledger_store::{Head, Kept, LedgerFault, follows, next_state, read_block};
@@ -89,6 +89,12 @@ fn is_next(before: &Snapshot, block: &Block, after: &Snapshot) -> bool {
         && follows(before, block, after)
 }
 
+/// Whether the record is over the newest block of the state before it. Of a slot that is not later the
+/// slot is reported.
+fn is_over(before: &Snapshot, block: &Block) -> bool {
+    block.slot <= before.slot || block.previous == before.recent.newest()
+}
+
 /// Replays one block over the state before it, and looks at the state that is kept after it.
 fn replay_block<T: Threads + Wait + Sync>(
     threads: &T,
@@ -132,6 +138,12 @@ fn replay_place<F: Folder, T: Threads + Wait + Sync>(
     }
     let slot = head.slots.as_slice()[place];
     let Kept { block, micros: _ } = read_block(alloc, files, slot)?;
+    if !is_over(&before, &block) {
+        return Err(Cause::Record {
+            entry: OF_BLOCK,
+            field: Field::Previous,
+        });
+    }
     let start = copied(alloc, &before)?;
     let after = next_state(alloc, files, head, place, before)?;
     replay_block(threads, alloc, start, &block, &after)?;

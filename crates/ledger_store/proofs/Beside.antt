@@ -17,7 +17,7 @@ use Rattle.ledger_folder.specs.Files.{Disk, Lists}
 use Rattle.ledger_folder.specs.Crash.{Shows}
 use Rattle.ledger_store.specs.declared.head.Head.{Head}
 use Rattle.ledger_store.specs.declared.fault.LedgerFault.{LedgerFault}
-use Rattle.ledger_store.specs.declared.fault.LedgerFault.TheVariants.{Failed, Missing, Damaged, Earlier, SlotNotLater, Exists, OutOfMemory}
+use Rattle.ledger_store.specs.declared.fault.LedgerFault.TheVariants.{Failed, Missing, Damaged, Earlier, Apart, SlotNotLater, Exists, OutOfMemory}
 use Rattle.ledger_store.specs.declared.opening.Ledger.{Ledger}
 use Rattle.ledger_store.specs.declared.seal.Watched.{Watched}
 use Rattle.ledger_store.specs.declared.watching.Opening.{Opening}
@@ -295,6 +295,7 @@ failure_is_free Failed answer h = tt
 failure_is_free (Missing name) answer h = absurd (cc)
 failure_is_free (Damaged name at) answer h = absurd (cc)
 failure_is_free Earlier answer h = absurd (cc)
+failure_is_free (Apart slot) answer h = absurd (cc)
 failure_is_free SlotNotLater answer h = absurd (cc)
 failure_is_free Exists answer h = absurd (cc)
 failure_is_free OutOfMemory answer h = absurd (cc)

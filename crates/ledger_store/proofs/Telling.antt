@@ -10,7 +10,7 @@ use Rattle.ledger_folder.specs.Files.{Disk, Lists}
 use Rattle.ledger_folder.specs.Crash.{Shows}
 use Rattle.ledger_store.specs.declared.head.Head.{Head}
 use Rattle.ledger_store.specs.declared.fault.LedgerFault.{LedgerFault}
-use Rattle.ledger_store.specs.declared.fault.LedgerFault.TheVariants.{Failed, Missing, Damaged, Earlier, SlotNotLater, Exists, OutOfMemory}
+use Rattle.ledger_store.specs.declared.fault.LedgerFault.TheVariants.{Failed, Missing, Damaged, Earlier, Apart, SlotNotLater, Exists, OutOfMemory}
 use Rattle.ledger_store.specs.Faults.{is_free, is_ledger_memory, found_or}
 use Rattle.ledger_store.specs.Heads.{head_from, head_in}
 use Rattle.ledger_store.specs.declared.opening.Ledger.{Ledger}
@@ -29,6 +29,7 @@ freer (Err Failed) answer h = tt
 freer (Err (Missing name)) answer h = h
 freer (Err (Damaged name at)) answer h = h
 freer (Err Earlier) answer h = h
+freer (Err (Apart slot)) answer h = h
 freer (Err SlotNotLater) answer h = h
 freer (Err Exists) answer h = h
 freer (Err OutOfMemory) answer h = tt

@@ -2,7 +2,9 @@
 -- project's own).
 use Rattle.std.specs.Prelude.{ℕ, List, ◌++◌, length, drop, Option, Result, Ok}
 use Rattle.std.specs.Int.{w64, to_le_bytes}
-use Rattle.spec_base.specs.Reading.{◌>>=◌, number_at, whole}
+use Rattle.spec_base.specs.Reading.{◌>>=◌, number_at, ok_if, whole}
+use Rattle.sol_base.specs.declared.key.Hash32.{Hash32}
+use Rattle.sol_base.specs.Keys.{same_hash}
 use Rattle.block_record.specs.declared.block.Block.{Block as BlockValue}
 use Rattle.block_record.specs.Record.{bytes_of_record}
 use Rattle.block_record.specs.RecordReading.{front_of}
@@ -11,7 +13,7 @@ use Rattle.ledger_store.specs.declared.block.Kept.{Kept}
 use Rattle.ledger_store.specs.declared.fault.FieldFault.{FieldFault}
 use Rattle.ledger_store.specs.declared.fault.FieldFault.TheVariants.{Field}
 use Rattle.ledger_store.specs.declared.fault.LedgerFault.{LedgerFault}
-use Rattle.ledger_store.specs.declared.fault.LedgerFault.TheVariants.{Missing}
+use Rattle.ledger_store.specs.declared.fault.LedgerFault.TheVariants.{Apart, Missing}
 use Rattle.ledger_store.specs.Faults.{field_fault, record_refusal, found_or, or_fault}
 use Rattle.ledger_store.specs.Seal.{body_of}
 use Rattle.ledger_store.specs.States.{ok_at_slot}
@@ -39,3 +41,9 @@ block_from slot file = do
 
 abbrev pub block_in : ℕ → Option (List ℕ) → Result Kept LedgerFault
 block_in slot found = found_or (Missing (Block slot)) found >>= block_from slot
+
+-- that block, if the one before it has this hash
+abbrev pub next_block_in : ℕ → Hash32 → Option (List ℕ) → Result Kept LedgerFault
+next_block_in slot parent found = do
+  kept ← block_in slot found
+  ok_if (same_hash kept.block.previous parent) (Apart slot) kept

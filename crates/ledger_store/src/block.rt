@@ -6,7 +6,7 @@ ghost use Rattle.block_record.specs.RecordReading.{front_of};
 ghost use Rattle.ledger_folder.specs.declared.name.Name.TheVariants.{Block as block_name};
 ghost use Rattle.ledger_store.specs.Faults.{LedgerCounts, NeverFails, field_fault, is_field_memory, is_ledger_memory, or_fault, record_refusal};
 ghost use Rattle.ledger_store.specs.Seal.{sealed};
-ghost use Rattle.ledger_store.specs.Blocks.{block_from, block_in, kept_bytes, micros_of, whole_block};
+ghost use Rattle.ledger_store.specs.Blocks.{block_from, block_in, kept_bytes, micros_of, next_block_in, whole_block};
 ghost use Rattle.ledger_store.specs.Reading.{Tells};
 
 use crate::fault::{FieldFault, LedgerFault, field_fault, record_fault};
@@ -16,7 +16,7 @@ use crate::state::SLOT_PLACE;
 use block_record::{Block, Front, read_front, write_record};
 use format_fields::ByteCount;
 use ledger_folder::{Folder, Name};
-use sol_base::{Blob, OutOfMemory};
+use sol_base::{Blob, Hash32, OutOfMemory};
 use spec_base::{place, u64_field};
 use std::alloc::Global;
 
@@ -105,6 +105,26 @@ pub fn read_block<F: Folder>(alloc: Global, folder: &mut F, slot: u64) -> Result
 {
     let bytes = read_file(folder, Name::Block { slot })?;
     block_from(alloc, slot, bytes.as_slice())
+}
+
+/// The block of a slot, as it is kept, if the block before it in the chain has that hash.
+pub fn read_next_block<F: Folder>(
+    alloc: Global,
+    folder: &mut F,
+    slot: u64,
+    parent: &Hash32,
+) -> Result<Kept, LedgerFault>
+    // Where the folder answered honestly, it is what the file says, or the first refusal.
+    ensures tells { Tells (F.events folder.old) (F.events folder.new) result
+        (λ disk. next_block_in slot parent.now (disk (block_name slot))) }
+    ensures counted { IfOk result (λ kept. IsCounted kept.block) }
+    ensures counts { LedgerCounts result (F.faults folder.old) (F.faults folder.new) }
+{
+    let kept = read_block(alloc, folder, slot)?;
+    if kept.block.previous != *parent {
+        return Err(LedgerFault::Apart { slot });
+    }
+    Ok(kept)
 }
 
 /// The file of a block, sealed.

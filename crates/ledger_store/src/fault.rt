@@ -28,6 +28,9 @@ pub enum LedgerFault {
         "the file chain is of an earlier version: `chain state` of the program that made it writes its newest state, and `chain new` begins a chain with that"
     )]
     Earlier,
+    /// The record of a block is over another block than the one before it in the chain.
+    #[error("a block is missing before slot {slot}, or that of slot {slot} is of another chain")]
+    Apart { slot: u64 },
     /// The slot of a block that is to be added is not above those of the chain.
     #[error("the slot is not after the chain's")]
     SlotNotLater,

@@ -22,7 +22,7 @@ mod told;
 mod watching;
 
 pub use adding::{add, create};
-pub use block::{Kept, read_block};
+pub use block::{Kept, read_block, read_next_block};
 pub use changes::Changes;
 pub use compared::changes_between;
 pub use copy::copy_snapshot;
