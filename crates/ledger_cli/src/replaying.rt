@@ -84,9 +84,7 @@ pub(crate) struct Shared {
 /// Whether the state that is kept after a block has its hash as the newest one, the limits before it,
 /// and behind that hash the blocks before it.
 fn is_next(before: &Snapshot, block: &Block, after: &Snapshot) -> bool {
-    after.recent.newest() == block.hash
-        && after.limits == before.limits
-        && follows(before, block, after)
+    after.limits == before.limits && follows(before, block, after)
 }
 
 /// Whether the record is over the newest block of the state before it. Of a slot that is not later the

@@ -1,7 +1,7 @@
 -- A chain with a block more is opened from the files that are put in their places.
-use Rattle.std.proofs.Common.{◌≡◌, ◌<◌, ◌≤◌, ◌+◌, ◌*◌, ◌/◌, ◌%◌, ◌^◌, ◌==◌, ℕ, zero, suc, List, [], ◌∷◌, ◌++◌, length, take, drop, map, filter, Bool, true, false, cond, not, ◌||◌, nat_le, is_none, Some, is_some, Result, Ok, Err, refl, sym, ◌∙◌, ap, subst, arith, All, length-take, take_all, eqb-true, le-leb, div-add-mod'}
+use Rattle.std.proofs.Common.{◌≡◌, ◌<◌, ◌≤◌, ◌+◌, ◌*◌, ◌/◌, ◌%◌, ◌^◌, ◌==◌, ℕ, zero, suc, List, [], ◌∷◌, ◌++◌, length, take, drop, map, filter, Bool, true, false, cond, not, ◌||◌, nat_le, is_none, Some, is_some, Result, Ok, Err, refl, sym, ◌∙◌, ap, subst, arith, All, length-take, take_all, eqb-true, le-leb, ne_eqb, div-add-mod'}
 use Rattle.std.specs.List.{AllByRecursion}
-use Rattle.std.proofs.lemmas.Bool.{eqb-false}
+use Rattle.std.proofs.lemmas.Bool.{cond-false, eqb-false}
 use Rattle.std.proofs.lemmas.Nat.{mod-mul-add, mod_below}
 use Rattle.std.proofs.lemmas.List.{get_or_append_left, get_or_at, drop-append-le, drop_all, length_push}
 use Rattle.std.proofs.lemmas.List.Elements.{All-take, All-filter, All-same, All-map, recursion_from_All}
@@ -27,14 +27,14 @@ use Rattle.ledger_store.specs.Seal.{sealed}
 use Rattle.ledger_store.specs.Heads.{head_in}
 use Rattle.ledger_store.specs.States.{state_in}
 use Rattle.ledger_store.specs.Changes.{changes_between, changes_in, is_kept, left_by, next_accounts, next_of, next_recent, next_snapshot, with_accounts, without}
-use Rattle.ledger_store.specs.Blocks.{kept_bytes}
-use Rattle.ledger_store.specs.Opening.{full_before, slot_after, stepped, walked, slots_behind, full_state, state_after, is_full}
+use Rattle.ledger_store.specs.Blocks.{ends_with, kept_bytes}
+use Rattle.ledger_store.specs.Opening.{full_before, slot_after, stepped, walked, slots_behind, full_state, state_after, ends_at, told_after, is_full}
 use Rattle.ledger_store.specs.Reading.{Opens}
 use Rattle.ledger_store.specs.Adding.{Follows, is_next_full, state_name, state_body, with_block}
-use Rattle.ledger_store.proofs.Same.{Agree, Later, agreed_state_after, opened_so, opens_from}
+use Rattle.ledger_store.proofs.Same.{Agree, Later, agreed_told_after, opened_so, opens_from, told_of_state}
 use Rattle.spec_base.proofs.Lists.{AllByRecursion-filter}
 use Rattle.ledger_store.proofs.Differences.{Entry, changes_back, few_gone, fewer_accounts, new_entries}
-use Rattle.ledger_store.proofs.Files.{state_again, changes_again}
+use Rattle.ledger_store.proofs.Files.{changes_again, ends_again, newest_is_hash, state_again}
 
 -- ---- which blocks have a full state
 module _ (every count : ℕ) (some : 1 ≤ every) where
@@ -172,8 +172,8 @@ same_slot_after head slot (suc n) within = get_or_append_left head.slots (slot �
 
 -- after a block with a full state, that is read alone
 full_newest : (disk : Disk) (head : Head) (slot : ℕ) (after : Snapshot) → full_before head.every (length head.slots + 1) ≡ length head.slots + 1 → state_in slot (disk (State slot)) ≡ Ok after
-    → state_after disk (longer head slot) (length head.slots + 1) ≡ Ok after
-unfolding state_after
+    → told_after disk (longer head slot) (length head.slots + 1) ≡ Ok after
+unfolding told_after
 full_newest disk head slot after full read =
     let n = length head.slots in
     let more = longer head slot in
@@ -190,8 +190,8 @@ full_newest disk head slot after full read =
 
 -- after any other block, its changes are put into the state before it
 changed_newest : (disk : Disk) (head : Head) (slot : ℕ) → full_before head.every (length head.slots + 1) ≡ full_before head.every (length head.slots)
-    → state_after disk (longer head slot) (length head.slots + 1) ≡ (state_after disk head (length head.slots) >>= stepped disk slot)
-unfolding state_after
+    → told_after disk (longer head slot) (length head.slots + 1) ≡ (told_after disk head (length head.slots) >>= stepped disk slot)
+unfolding told_after
 changed_newest disk head slot same =
     let n = length head.slots in
     let more = longer head slot in
@@ -243,7 +243,7 @@ module _ (ledger : Ledger) (block : BlockValue) (after : Snapshot) (micros : ℕ
   newest_then : (full : Bool) → is_full head.every count ≡ full → (crashed : Disk)
       → Agree after.slot crashed disk
       → crashed (state_name full after.slot) ≡ Some (sealed (state_body full ledger.newest after))
-      → state_after crashed (longer head after.slot) (count + 1) ≡ Ok after
+      → told_after crashed (longer head after.slot) (count + 1) ≡ Ok after
   newest_then true full crashed agree there =
       full_newest crashed head after.slot after (after_full head.every count some full) (ap (state_in after.slot) there ∙ state_again after.slot after is has refl)
   newest_then false other crashed agree there =
@@ -253,9 +253,26 @@ module _ (ledger : Ledger) (block : BlockValue) (after : Snapshot) (micros : ℕ
       (readable ledger.newest after was is) (widths ledger.newest after was is has)
       (few_keys ledger.newest after was is) (gone_keys ledger.newest after was is had) had refl in
       changed_newest crashed head after.slot (after_other head.every count some other)
-      ∙ ap (λ (r : Result Snapshot LedgerFault). r >>= stepped crashed after.slot) (agreed_state_after after.slot crashed disk head count agree later ∙ so.newest_read)
+      ∙ ap (λ (r : Result Snapshot LedgerFault). r >>= stepped crashed after.slot) (agreed_told_after after.slot crashed disk head count agree later ∙ told_of_state disk head count ledger.newest so.newest_read)
       ∙ ap (λ (r : Result Changes LedgerFault). r >>= λ c. next_of after.slot c ledger.newest) read
       ∙ next_again ledger.newest after was is follows.recent
+
+  -- which ends at the block
+  ends : (crashed : Disk) → crashed (Block after.slot) ≡ Some (sealed (kept_bytes block micros)) → ends_at crashed (longer head after.slot) (count + 1) after ≡ Ok after
+  ends crashed here =
+      let add_one : count + 1 ≡ suc count = omega arith in
+      let slot : slot_after (longer head after.slot) (count + 1) ≡ after.slot = ap (slot_after (longer head after.slot)) add_one ∙ get_or_at head.slots after.slot [] 0 count refl in
+      let is_hash : IsHash block.hash = subst IsHash follows.hash (newest_is_hash after.recent has.hashes) in
+      cond-false (count + 1 == 0) (Ok after) (ends_with (slot_after (longer head after.slot) (count + 1)) after (crashed (Block (slot_after (longer head after.slot) (count + 1))))) (ne_eqb (count + 1) 0 (λ e. omega (arith, e)))
+      ∙ ap (λ (s : ℕ). ends_with s after (crashed (Block s))) slot
+      ∙ ap (ends_with after.slot after) here
+      ∙ ends_again after.slot after block micros is_hash follows.hash
+
+  newest_read : (crashed : Disk) → Agree after.slot crashed disk → crashed (state_name (is_next_full ledger) after.slot) ≡ Some (sealed (state_body (is_next_full ledger) ledger.newest after))
+      → crashed (Block after.slot) ≡ Some (sealed (kept_bytes block micros)) → state_after crashed (longer head after.slot) (count + 1) ≡ Ok after
+  unfolding state_after
+  newest_read crashed agree there here =
+      ap (λ (r : Result Snapshot LedgerFault). r >>= ends_at crashed (longer head after.slot) (count + 1)) (newest_then (is_next_full ledger) refl crashed agree there) ∙ ends crashed here
 
   -- so the files of a block that is added open as the chain with the block
   pub added : (crashed : Disk) → Agree after.slot crashed disk → crashed (state_name (is_next_full ledger) after.slot) ≡ Some (sealed (state_body (is_next_full ledger) ledger.newest after))
@@ -268,6 +285,6 @@ module _ (ledger : Ledger) (block : BlockValue) (after : Snapshot) (micros : ℕ
           fields = so.fields;
           head_read = ap head_in (agree Chain refl) ∙ so.head_read;
           head_is = ap (λ (h : Head). record h { slots = head.slots ++ after.slot ∷ [] }) so.head_is;
-          newest_read = subst (λ n. state_after crashed (longer head after.slot) n ≡ Ok after) (sym (length_push head.slots after.slot)) (newest_then (is_next_full ledger) refl crashed agree there);
+          newest_read = subst (λ n. state_after crashed (longer head after.slot) n ≡ Ok after) (sym (length_push head.slots after.slot)) (newest_read crashed agree there here);
         });
       }

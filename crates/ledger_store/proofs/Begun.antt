@@ -22,7 +22,7 @@ use Rattle.ledger_store.specs.declared.fault.LedgerFault.{LedgerFault}
 use Rattle.ledger_store.specs.Seal.{sealed}
 use Rattle.ledger_store.specs.Heads.{head_bytes, head_in}
 use Rattle.ledger_store.specs.States.{state_in}
-use Rattle.ledger_store.specs.Opening.{full_before, full_state, slot_after, slots_behind, state_after, walked}
+use Rattle.ledger_store.specs.Opening.{ends_at, full_before, full_state, slot_after, slots_behind, state_after, told_after, walked}
 use Rattle.ledger_store.specs.Reading.{IsOpen, Opens}
 use Rattle.ledger_folder.specs.Placing.{StoppedPlacing, placing}
 use Rattle.ledger_store.specs.Adding.{AreReads, HasChain, IsBegunOrNot, OnlyReads, beginning, begun}
@@ -42,12 +42,13 @@ placed-placing start events name bytes =
 
 -- the first state alone
 first_state : (disk : Disk) (head : Head) (snapshot : Snapshot) → head.slots ≡ [] → state_in head.start (disk (State head.start)) ≡ Ok snapshot → state_after disk head 0 ≡ Ok snapshot
-unfolding state_after
+unfolding state_after told_after
 first_state disk head snapshot none read =
     let full : full_before head.every 0 ≡ 0 = omega arith in
     let first : full_state disk head 0 ≡ Ok snapshot = ap (λ (n : ℕ). let slot = slot_after head n in state_in slot (disk (State slot))) full ∙ read in
     let behind : slots_behind head 0 ≡ [] = ap (λ (n : ℕ). drop n (take 0 head.slots)) full in
-    ap (λ (r : Result Snapshot LedgerFault). r >>= walked disk (slots_behind head 0)) first ∙ ap (λ (l : List ℕ). walked disk l snapshot) behind
+    ap (λ (r : Result Snapshot LedgerFault). r >>= ends_at disk head 0)
+    (ap (λ (r : Result Snapshot LedgerFault). r >>= walked disk (slots_behind head 0)) first ∙ ap (λ (l : List ℕ). walked disk l snapshot) behind)
 
 module _ (snapshot : Snapshot) (every : ℕ) (some : 1 ≤ every) (few : every < 2 ^ 32) (is : IsReadable snapshot) (has : HasWidths snapshot) where
   abbrev state_bytes : List ℕ

@@ -12,12 +12,12 @@ use Rattle.snapshot_codec.specs.Snapshot.{HasWidths}
 use Rattle.spec_base.proofs.Binding.{bind_ok, ok_same}
 use Rattle.ledger_folder.specs.declared.event.Event.{Event}
 use Rattle.ledger_folder.specs.declared.name.Name.{Name}
-use Rattle.ledger_folder.specs.declared.name.Name.TheVariants.{State, Changes}
+use Rattle.ledger_folder.specs.declared.name.Name.TheVariants.{Block, State, Changes}
 use Rattle.ledger_folder.specs.Files.{Disk, Lists}
 use Rattle.ledger_folder.specs.Crash.{Shows}
 use Rattle.ledger_store.specs.declared.head.Head.{Head}
 use Rattle.ledger_store.specs.declared.fault.LedgerFault.{LedgerFault}
-use Rattle.ledger_store.specs.declared.fault.LedgerFault.TheVariants.{Failed, Missing, Damaged, Earlier, Apart, SlotNotLater, Exists, OutOfMemory}
+use Rattle.ledger_store.specs.declared.fault.LedgerFault.TheVariants.{Failed, Missing, Damaged, Earlier, Apart, Unlike, SlotNotLater, Exists, OutOfMemory}
 use Rattle.ledger_store.specs.declared.opening.Ledger.{Ledger}
 use Rattle.ledger_store.specs.declared.seal.Watched.{Watched}
 use Rattle.ledger_store.specs.declared.watching.Opening.{Opening}
@@ -27,8 +27,9 @@ use Rattle.ledger_store.specs.States.{state_from, state_in, whole_state}
 use Rattle.ledger_store.specs.declared.changes.Changes.{Changes as Changed}
 use Rattle.ledger_store.specs.declared.changes.Linked.{Linked}
 use Rattle.ledger_store.specs.Changes.{changes_from, linked_in, next_of, over, whole_changes}
+use Rattle.ledger_store.specs.Blocks.{ends_from, ends_in, ends_with}
 use Rattle.ledger_store.specs.Ahead.{files_of, found_in, stepped_by, told_by, walked_by}
-use Rattle.ledger_store.specs.Opening.{full_before, full_state, slot_after, slots_behind, state_after, stepped, walked}
+use Rattle.ledger_store.specs.Opening.{ends_at, full_before, full_state, slot_after, slots_behind, state_after, stepped, told_after, walked}
 use Rattle.ledger_store.specs.Reading.{IsOpen, Tells, TellsListed, heading}
 use Rattle.ledger_store.specs.Watching.{IsOpening, finished, first_unsealed, refusal, settled, told_unless, unsealed_fault}
 use Rattle.ledger_store.proofs.Telling.{err_so, err_then, freer, is_open, ok_so}
@@ -228,8 +229,8 @@ stays_settled {X = X} {Y = Y} before after fault answer more h =
 pub tells_beside : (files later : List Watched) (old new : List Event) (head : Head) (count slot : ℕ)
     (slots : List ℕ) (found : List ℕ × List (ℕ × Option (List ℕ))) (result : Result Snapshot LedgerFault)
     → ((disk : Disk) → Shows new disk → Shows old disk × (found_in disk slot slots ≡ Ok found)) → Gives is_free (λ s. s) (settled later result) (settled files (told_by slot found.0 found.1))
-    → slot ≡ slot_after head (full_before head.every count) → slots ≡ slots_behind head count → Tells old new (settled later result) (λ disk. settled files (state_after disk head count))
-unfolding state_after
+    → slot ≡ slot_after head (full_before head.every count) → slots ≡ slots_behind head count → Tells old new (settled later result) (λ disk. settled files (told_after disk head count))
+unfolding told_after
 tells_beside files later old new head count slot slots found result first told at behind disk shows =
     let f = first disk shows in
     let parts = bind_ok (found_or (Missing (State slot)) (disk (State slot)))
@@ -249,8 +250,8 @@ tells_beside files later old new head count slot slots found result first told a
 -- files that are not there to be read
 pub tells_refused : (files later : List Watched) (old new : List Event) (head : Head) (count slot : ℕ) (slots : List ℕ) (fault : LedgerFault) → later ≡ files
     → ((disk : Disk) → Shows new disk → Shows old disk × Gives is_free (λ x. x) (let r : Result (List ℕ × List (ℕ × Option (List ℕ))) LedgerFault = Err fault in r) (found_in disk slot slots))
-    → slot ≡ slot_after head (full_before head.every count) → Tells old new (settled {X = Snapshot} later (Err fault)) (λ disk. settled files (state_after disk head count))
-unfolding state_after
+    → slot ≡ slot_after head (full_before head.every count) → Tells old new (settled {X = Snapshot} later (Err fault)) (λ disk. settled files (told_after disk head count))
+unfolding told_after
 tells_refused files later old new head count slot slots fault same first at disk shows =
     let f = first disk shows in
     let refused : MatchBool (is_free fault) (Unit {0})
@@ -261,7 +262,7 @@ tells_refused files later old new head count slot slots fault same first at disk
     (err_then (is_free fault) fault (found_or (Missing (State slot)) (disk (State slot))) (state_from slot)
     refused) in (
       f.0,
-      settled_same {X = Snapshot} files later (Err fault) (state_after disk head count) same
+      settled_same {X = Snapshot} files later (Err fault) (told_after disk head count) same
           (subst (λ (n : ℕ). MatchBool (is_free fault) (Unit {0}) ((state_in n (disk (State n)) >>= walked disk (slots_behind head count)) ≡ Err fault)) at here),
     )
   where
@@ -272,6 +273,78 @@ tells_refused files later old new head count slot slots fault same first at disk
     not_found true read h = tt
     not_found false (Ok full) h = absurd (cc)
     not_found false (Err e) h = let e_is : e ≡ fault = cc in ap (λ (x : LedgerFault). let r : Result (List ℕ) LedgerFault = Err x in r) e_is
+
+-- what is told, and then what is read of it
+settled_both : (old mid new : List Event) (before after last : List Watched) (x : Snapshot) (result : Result Snapshot LedgerFault)
+    (read : Disk → Result Snapshot LedgerFault) (more : Disk → Snapshot → Result Snapshot LedgerFault)
+    → Tells old mid (settled after (Ok x)) (λ disk. settled before (read disk)) → Tells mid new (settled last result) (λ disk. settled after (more disk x))
+    → Tells old new (settled last result) (λ disk. settled before (read disk >>= more disk))
+settled_both old mid new before after last x result read more first second disk shows =
+    let s = second disk shows in
+    let f = first disk s.0 in (
+      f.0,
+      subst (λ (r : Result Snapshot LedgerFault). Gives is_free (λ (y : Snapshot). y) (settled last result) r) (sym (more_settled before after x (read disk) (more disk) f.1)) s.1,
+    )
+
+-- or a refusal
+settled_refused : (old new : List Event) (before after : List Watched) (fault : LedgerFault) (read : Disk → Result Snapshot LedgerFault) (more : Disk → Snapshot → Result Snapshot LedgerFault)
+    → Tells old new (settled {X = Snapshot} after (Err fault)) (λ disk. settled before (read disk)) → Tells old new (settled {X = Snapshot} after (Err fault)) (λ disk. settled before (read disk >>= more disk))
+settled_refused old new before after fault read more first disk shows =
+    let f = first disk shows in (f.0, stays_settled {Y = Snapshot} before after fault (read disk) (more disk) f.1)
+
+-- the states and changes of a chain, and its newest block
+pub newest_settled : (old mid new : List Event) (before after last : List Watched) (head : Head) (count : ℕ) (x : Snapshot) (result : Result Snapshot LedgerFault)
+    → Tells old mid (settled after (Ok x)) (λ disk. settled before (told_after disk head count)) → Tells mid new (settled last result) (λ disk. settled after (ends_at disk head count x))
+    → Tells old new (settled last result) (λ disk. settled before (state_after disk head count))
+unfolding state_after
+newest_settled old mid new before after last head count x result first second =
+    settled_both old mid new before after last x result (λ disk. told_after disk head count) (λ disk. ends_at disk head count) first second
+
+pub newest_refused : (old new : List Event) (before after : List Watched) (head : Head) (count : ℕ) (fault : LedgerFault)
+    → Tells old new (settled {X = Snapshot} after (Err fault)) (λ disk. settled before (told_after disk head count)) → Tells old new (settled {X = Snapshot} after (Err fault)) (λ disk. settled before (state_after disk head count))
+unfolding state_after
+newest_refused old new before after head count fault first =
+    settled_refused old new before after fault (λ disk. told_after disk head count) (λ disk. ends_at disk head count) first
+
+-- the file of a block
+sealed_block : (slot : ℕ) (newest : Snapshot) (bytes : List ℕ) (seal : Bool) → is_sealed bytes ≡ seal
+    → ends_from slot newest bytes ≡ told_unless (if seal then None else Some (Damaged (Block slot) (seal_at bytes))) (ends_in slot newest (unsealed bytes))
+unfolding ends_from body_of
+sealed_block slot newest bytes true e = rw e refl
+sealed_block slot newest bytes false e = rw e refl
+
+pub watched_block : (file : Watched) (slot : ℕ) (newest : Snapshot) (bytes : List ℕ) (told : Result Snapshot LedgerFault) → file.name ≡ Block slot → arc_value file.bytes ≡ bytes
+    → Gives is_ledger_memory (λ s. s) told (ends_in slot newest (unsealed bytes)) → Gives is_free (λ s. s) (told_unless (unsealed_fault file) told) (ends_from slot newest bytes)
+watched_block file slot newest bytes told name holds gives =
+    let first : Option LedgerFault = if is_sealed bytes then None else Some (Damaged (Block slot) (seal_at bytes)) in
+    let own : unsealed_fault file ≡ first =
+    ap (λ (l : List ℕ). if is_sealed l then None else Some (Damaged file.name (seal_at l))) holds ∙ ap (λ (n : Name). if is_sealed bytes then None else Some (Damaged n (seal_at bytes))) name in
+    subst (λ (o : Option LedgerFault). Gives is_free (λ (s : Snapshot). s) (told_unless o told) (ends_from slot newest bytes)) (sym own)
+    (subst (λ (r : Result Snapshot LedgerFault). Gives is_free (λ (s : Snapshot). s) (told_unless first told) r) (sym (sealed_block slot newest bytes (is_sealed bytes) refl))
+    (unless_gives first told (ends_in slot newest (unsealed bytes)) (freer told (ends_in slot newest (unsealed bytes)) gives)))
+
+-- which is put behind the others
+pub block_settled : (old new : List Event) (files later : List Watched) (file : Watched) (slot : ℕ) (newest : Snapshot) (bytes : List ℕ) (told : Result Snapshot LedgerFault)
+    → Tells old new (Ok bytes) (λ disk. found_or (Missing (Block slot)) (disk (Block slot))) → later ≡ files ++ file ∷ []
+    → Gives is_free (λ s. s) (told_unless (unsealed_fault file) told) (ends_from slot newest bytes)
+    → Tells old new (settled later told) (λ disk. settled files (ends_with slot newest (disk (Block slot))))
+block_settled old new files later file slot newest bytes told first pushed gives disk shows =
+    let f = first disk shows in (
+      f.0,
+      subst (λ (r : Result (List ℕ) LedgerFault). Gives is_free (λ (s : Snapshot). s) (settled later told) (settled files (r >>= ends_from slot newest))) (sym f.1)
+          (settled_gives files later file told (ends_from slot newest bytes) pushed gives),
+    )
+
+-- or is not there to be read
+pub block_refused : (old new : List Event) (files later : List Watched) (slot : ℕ) (newest : Snapshot) (fault : LedgerFault) → later ≡ files
+    → Tells {X = List ℕ} old new (Err fault) (λ disk. found_or (Missing (Block slot)) (disk (Block slot)))
+    → Tells {X = Snapshot} old new (settled later (Err fault)) (λ disk. settled files (ends_with slot newest (disk (Block slot))))
+block_refused old new files later slot newest fault same first disk shows =
+    let f = first disk shows in (
+      f.0,
+      settled_same {X = Snapshot} files later (Err fault) (ends_with slot newest (disk (Block slot))) same
+          (err_then (is_free fault) fault (found_or (Missing (Block slot)) (disk (Block slot))) (ends_from slot newest) f.1),
+    )
 
 -- no file was read before
 pub tells_alone : (files later : List Watched) (old new : List Event) (head : Head) (count : ℕ) (result : Result Snapshot LedgerFault) → files ≡ [] → count ≡ length head.slots
@@ -296,6 +369,7 @@ failure_is_free (Missing name) answer h = absurd (cc)
 failure_is_free (Damaged name at) answer h = absurd (cc)
 failure_is_free Earlier answer h = absurd (cc)
 failure_is_free (Apart slot) answer h = absurd (cc)
+failure_is_free (Unlike slot) answer h = absurd (cc)
 failure_is_free SlotNotLater answer h = absurd (cc)
 failure_is_free Exists answer h = absurd (cc)
 failure_is_free OutOfMemory answer h = absurd (cc)

@@ -1,5 +1,5 @@
 -- Files are read as they are written.
-use Rattle.std.proofs.Common.{◌≡◌, ◌<◌, ◌≤◌, ◌^◌, ◌==◌, ℕ, All, List, [], ◌∷◌, ◌++◌, length, take, drop, true, if◌then◌else◌, Some, Ok, Err, refl, sym, ◌∙◌, ap, subst, arith, append_assoc, codes, length-append, take_at, drop_at, eq-eqb, le-leb, nat_le, bytes_eq}
+use Rattle.std.proofs.Common.{◌≡◌, ◌<◌, ◌≤◌, ◌^◌, ◌-◌, ◌==◌, ℕ, All, List, [], ◌∷◌, ◌++◌, length, take, drop, true, if◌then◌else◌, Some, Ok, Err, refl, sym, ◌∙◌, ap, subst, arith, append_assoc, codes, length-append, take_at, drop_at, eq-eqb, le-leb, nat_le, bytes_eq}
 use Rattle.std.specs.Int.{w32, w64, to_le_bytes}
 use Rattle.std.specs.List.{AllByRecursion, flat_map}
 use Rattle.std.proofs.lemmas.List.{append-nil}
@@ -20,12 +20,15 @@ use Rattle.status_cache.specs.Recent.{newest_of}
 use Rattle.snapshot_codec.specs.declared.snapshot.Snapshot.{Snapshot}
 use Rattle.snapshot_codec.specs.Snapshot.{snapshot_bytes, IsReadable, HasWidths}
 use Rattle.snapshot_codec.proofs.SnapshotLaws.{round_trips}
+use Rattle.block_record.specs.declared.block.Block.{Block as BlockValue}
+use Rattle.block_record.specs.Record.{block_bytes}
 use Rattle.ledger_folder.specs.declared.name.Name.{Name}
-use Rattle.ledger_folder.specs.declared.name.Name.TheVariants.{Chain, State, Changes as changes_name}
+use Rattle.ledger_folder.specs.declared.name.Name.TheVariants.{Block, Chain, State, Changes as changes_name}
 use Rattle.ledger_store.specs.declared.changes.Changes.{Changes}
 use Rattle.ledger_store.specs.declared.fault.FieldFault.TheVariants.{Field}
 use Rattle.ledger_store.specs.declared.fault.LedgerFault.TheVariants.{Damaged}
 use Rattle.ledger_store.specs.Seal.{sealed, seal_at, body_of}
+use Rattle.ledger_store.specs.Blocks.{ends_from, ends_in, ends_with, hash_in, kept_bytes}
 use Rattle.ledger_store.specs.Heads.{every_at, head_at, head_bytes, head_from, head_in, head_of, magic_at}
 use Rattle.ledger_store.specs.States.{front_in, ok_at_slot, whole_state, state_from, state_in}
 use Rattle.ledger_store.specs.Changes.{before_at, behind_of, changes_bytes, changes_from, changes_in, gone_at, gone_bytes, linked_in, whole_changes}
@@ -72,7 +75,7 @@ behind_again before total parent keys fits is few are =
     ) refl
 
 -- the hash of the newest block has 32 bytes, and so have zeros
-newest_is_hash : (marks : List Mark) → All (λ mark. IsHash mark.hash) marks → IsHash (newest_of marks)
+pub newest_is_hash : (marks : List Mark) → All (λ mark. IsHash mark.hash) marks → IsHash (newest_of marks)
 newest_is_hash [] all = refl
 newest_is_hash (mark ∷ marks) all = All-head (λ (m : Mark). IsHash m.hash) mark marks all
 
@@ -113,3 +116,22 @@ head_fields total every start some few fits =
 pub head_again : (every start : ℕ) → 1 ≤ every → every < 2 ^ 32 → start < 2 ^ 64 → head_in (Some (sealed (head_bytes every start))) ≡ Ok (every, start)
 unfolding head_from head_of
 head_again every start some few fits = rw (unsealed Chain (head_bytes every start), head_fields (length (head_bytes every start)) every start some few fits) refl
+
+-- the block hash of a file
+hash_again : (name : Name) (block : BlockValue) (micros : ℕ) → IsHash block.hash → hash_in name (kept_bytes block micros) ≡ Ok block.hash
+hash_again name block micros is =
+    let front : List ℕ = block_bytes block in
+    let end : List ℕ = to_le_bytes w64 micros in
+    let body : List ℕ = kept_bytes block micros in
+    let split : body ≡ front ++ (hash_bytes block.hash ++ end) = append_assoc front (hash_bytes block.hash) end in
+    let place : length front ≡ length body - 40 =
+    omega (arith, ap length split, length-append front (hash_bytes block.hash ++ end), length-append (hash_bytes block.hash) end, is, length_to_le_bytes w64 micros) in
+    let behind : drop (length body - 40) body ≡ hash_bytes block.hash ++ end =
+    ap (drop (length body - 40)) split ∙ drop_at front (hash_bytes block.hash ++ end) (length body - 40) place in
+    rw (behind, (hash_reads Field (length body)).again block.hash end is) refl
+
+pub ends_again : (slot : ℕ) (after : Snapshot) (block : BlockValue) (micros : ℕ) → IsHash block.hash → newest_of after.recent ≡ block.hash
+    → ends_with slot after (Some (sealed (kept_bytes block micros))) ≡ Ok after
+unfolding ends_from ends_in
+ends_again slot after block micros is newest =
+    rw (unsealed (Block slot) (kept_bytes block micros), hash_again (Block slot) block micros is, (same_hash-Decides block.hash (newest_of after.recent)).1 (sym newest)) refl

@@ -8,11 +8,11 @@ use Rattle.sol_base.specs.declared.key.Hash32.{Hash32}
 use Rattle.sol_base.specs.Keys.{same_hash}
 use Rattle.sol_base.proofs.KeyLaws.{same_hash-Decides}
 use Rattle.status_cache.specs.declared.recent.Mark.{Mark}
-use Rattle.status_cache.specs.Recent.{max_marks}
+use Rattle.status_cache.specs.Recent.{max_marks, newest_of}
 use Rattle.snapshot_codec.specs.declared.snapshot.Snapshot.{Snapshot}
 use Rattle.block_record.specs.declared.block.Block.{Block as BlockValue}
 use Rattle.ledger_store.specs.Changes.{next_recent}
-use Rattle.ledger_store.specs.Marks.{is_next_recent, same_mark}
+use Rattle.ledger_store.specs.Marks.{is_after, is_next_recent, same_mark}
 use Rattle.ledger_store.specs.Adding.{Follows}
 
 names_decide : (xs ys : List Hash32) → Decides (pointwise same_hash xs ys) (xs ≡ ys)
@@ -47,13 +47,26 @@ next_decides before (mark ∷ older) = (
   λ e. (marks_decide older (take (max_marks - 1) before)).1 (rest_of mark mark older (take (max_marks - 1) before) e),
 )
 
-pub follows_decides : (before after : Snapshot) (block : BlockValue) → Decides (block.slot == after.slot && is_next_recent before.recent after.recent) (Follows before block after)
+after_from : (before after : Snapshot) (block : BlockValue) → Follows before block after → is_after block after ≡ true
+after_from before after block follows =
+    and_from (block.slot == after.slot) (same_hash (newest_of after.recent) block.hash) (eq-eqb block.slot after.slot follows.slot) ((same_hash-Decides (newest_of after.recent) block.hash).1 follows.hash)
+
+pub follows_decides : (before after : Snapshot) (block : BlockValue) → Decides (is_after block after && is_next_recent before.recent after.recent) (Follows before block after)
 follows_decides before after block = (
   λ same.
-      let parts = and_parts (block.slot == after.slot) (is_next_recent before.recent after.recent) same in
-      record { slot = eqb-true block.slot after.slot parts.0; recent = (next_decides before.recent after.recent).0 parts.1 },
-  λ follows. and_from (block.slot == after.slot) (is_next_recent before.recent after.recent) (eq-eqb block.slot after.slot follows.slot) ((next_decides before.recent after.recent).1 follows.recent),
+      let parts = and_parts (is_after block after) (is_next_recent before.recent after.recent) same in
+      let both = and_parts (block.slot == after.slot) (same_hash (newest_of after.recent) block.hash) parts.0 in
+      record {
+        slot = eqb-true block.slot after.slot both.0;
+        hash = (same_hash-Decides (newest_of after.recent) block.hash).0 both.1;
+        recent = (next_decides before.recent after.recent).0 parts.1;
+      },
+  λ follows. and_from (is_after block after) (is_next_recent before.recent after.recent) (after_from before after block follows) ((next_decides before.recent after.recent).1 follows.recent),
 )
+
+-- where the snapshot is not after the block
+pub follows_not : (before after : Snapshot) (block : BlockValue) → is_after block after ≡ false → Follows before block after → ⊥
+follows_not before after block not follows = true≢false (sym (after_from before after block follows) ∙ not)
 
 -- what is behind the first
 pub more_next : (before after older : List Mark) (n : ℕ) (same : Bool) → 1 ≤ length after
@@ -66,16 +79,16 @@ more_next before (mark ∷ after) older n same some is at h =
     ∙ ap (λ (l : List Mark). pointwise same_mark after l)
     (ap (λ (k : ℕ). take k before) at ∙ take_min (max_marks - 1) before)
 
--- where the slot is that of the block
-pub follows_so : (before after : Snapshot) (block : BlockValue) (b a : List Mark) (same : Bool) → (block.slot == after.slot) ≡ true → b ≡ before.recent → a ≡ after.recent → same ≡ is_next_recent b a
+-- where the snapshot is after the block
+pub follows_so : (before after : Snapshot) (block : BlockValue) (b a : List Mark) (same : Bool) → is_after block after ≡ true → b ≡ before.recent → a ≡ after.recent → same ≡ is_next_recent b a
     → (same ≡ true → Follows before block after) × (Follows before block after → same ≡ true)
 follows_so before after block b a same slot was is e =
     let d = follows_decides before after block in
     let whole : same ≡ is_next_recent before.recent after.recent = e ∙ ap (λ (l : List Mark). is_next_recent l a) was ∙ ap (λ (l : List Mark). is_next_recent before.recent l) is in (
-      λ h. d.0 (and_from (block.slot == after.slot) (is_next_recent before.recent after.recent) slot
+      λ h. d.0 (and_from (is_after block after) (is_next_recent before.recent after.recent) slot
           (sym whole ∙ h)),
       λ f. whole
-          ∙ (and_parts (block.slot == after.slot) (is_next_recent before.recent after.recent) (d.1 f)).1,
+          ∙ (and_parts (is_after block after) (is_next_recent before.recent after.recent) (d.1 f)).1,
     )
 
 -- ---- a walk over two lists

@@ -1,9 +1,11 @@
 -- A chain looks at the files of its own slots alone.
-use Rattle.std.proofs.Common.{◌≡◌, ℕ, zero, suc, ◌<◌, List, [], ◌∷◌, length, take, drop, true, false, ◌||◌, ◌==◌, nat_lt, Option, is_some, Result, Ok, Err, ⊎_elim, refl, sym, ◌∙◌, ap, subst, arith, slice_index, ltb-true, ne_eqb, eqb-true}
+use Rattle.std.proofs.Common.{◌≡◌, ℕ, zero, suc, ◌<◌, List, [], ◌∷◌, length, take, drop, Bool, true, false, if◌then◌else◌, ◌||◌, ◌==◌, nat_lt, Option, is_some, Result, Ok, Err, ⊎_elim, refl, sym, ◌∙◌, ap, subst, arith, slice_index, ltb-true, ne_eqb, eqb-true}
 use Rattle.std.specs.List.{AllByRecursion, list_all}
 use Rattle.std.proofs.lemmas.Bool.{and_parts, or_from, cases_Bool}
-use Rattle.spec_base.specs.Reading.{◌>>=◌}
+use Rattle.spec_base.specs.Reading.{◌>>=◌, ok_if}
 use Rattle.spec_base.proofs.Binding.{bind_ok, ok_same}
+use Rattle.sol_base.specs.Keys.{same_hash}
+use Rattle.status_cache.specs.Recent.{newest_of}
 use Rattle.snapshot_codec.specs.declared.snapshot.Snapshot.{Snapshot}
 use Rattle.ledger_folder.specs.declared.name.Name.{Name}
 use Rattle.ledger_folder.specs.declared.name.Name.TheVariants.{Chain, State, Changes, Block}
@@ -12,10 +14,14 @@ use Rattle.ledger_folder.specs.Files.{Disk}
 use Rattle.ledger_store.specs.declared.head.Head.{Head}
 use Rattle.ledger_store.specs.declared.opening.Ledger.{Ledger}
 use Rattle.ledger_store.specs.declared.fault.LedgerFault.{LedgerFault}
+use Rattle.ledger_store.specs.declared.fault.LedgerFault.TheVariants.{Missing, Unlike}
 use Rattle.ledger_store.specs.Heads.{head_in}
 use Rattle.ledger_store.specs.States.{state_in}
 use Rattle.ledger_store.specs.Changes.{changes_in, next_of}
-use Rattle.ledger_store.specs.Opening.{full_before, slot_after, stepped, walked, slots_behind, full_state, state_after, head_with, opened}
+use Rattle.ledger_store.specs.Faults.{found_or}
+use Rattle.ledger_store.specs.Seal.{body_of}
+use Rattle.ledger_store.specs.Blocks.{ends_from, ends_in, ends_with, hash_in}
+use Rattle.ledger_store.specs.Opening.{ends_at, full_before, slot_after, stepped, walked, slots_behind, full_state, state_after, told_after, head_with, opened}
 use Rattle.ledger_store.specs.Reading.{Opens}
 use Rattle.ledger_store.specs.Adding.{is_later}
 
@@ -38,12 +44,12 @@ same_walked one other (slot ∷ slots) before same =
     ap (λ (r : Result Snapshot LedgerFault). r >>= walked one slots) (same_stepped one other slot before same.0)
     ∙ bind_same (stepped other slot before) (walked one slots) (walked other slots) (λ next. same_walked one other slots next same.1)
 
-pub same_state_after : (one other : Disk) (head : Head) (count : ℕ)
+pub same_told_after : (one other : Disk) (head : Head) (count : ℕ)
     → (let slot = slot_after head (full_before head.every count) in one (State slot))
     ≡ (let slot = slot_after head (full_before head.every count) in other (State slot))
-    → AllByRecursion (λ slot. one (Changes slot) ≡ other (Changes slot)) (slots_behind head count) → state_after one head count ≡ state_after other head count
-unfolding state_after
-same_state_after one other head count full behind =
+    → AllByRecursion (λ slot. one (Changes slot) ≡ other (Changes slot)) (slots_behind head count) → told_after one head count ≡ told_after other head count
+unfolding told_after
+same_told_after one other head count full behind =
     ap (λ (found : Option (List ℕ)). state_in (slot_after head (full_before head.every count)) found >>= walked one (slots_behind head count)) full
     ∙ bind_same (full_state other head count) (walked one (slots_behind head count)) (walked other (slots_behind head count)) (λ before. same_walked one other (slots_behind head count) before behind)
 
@@ -99,11 +105,52 @@ later head slot h =
     let parts = and_parts (nat_lt head.start slot) (list_all (λ one. nat_lt one slot) head.slots) h in
     record { start = ltb-true head.start slot parts.0; each = all_below head.slots slot parts.1 }
 
-pub agreed_state_after : (slot : ℕ) (one other : Disk) (head : Head) (count : ℕ) → Agree slot one other → Later head slot → state_after one head count ≡ state_after other head count
-agreed_state_after slot one other head count agree after =
-    same_state_after one other head count
+pub agreed_told_after : (slot : ℕ) (one other : Disk) (head : Head) (count : ℕ) → Agree slot one other → Later head slot → told_after one head count ≡ told_after other head count
+agreed_told_after slot one other head count agree after =
+    same_told_after one other head count
     (agree_state slot one other agree (slot_after head (full_before head.every count)) (below_slot_after head (full_before head.every count) slot after.start after.each))
     (agree_changes slot one other agree (slots_behind head count) (below_drop (full_before head.every count) (take count head.slots) slot (below_take count head.slots slot after.each)))
+
+agree_block : (slot : ℕ) (one other : Disk) → Agree slot one other → (at : ℕ) → at < slot → one (Block at) ≡ other (Block at)
+agree_block slot one other agree at below = agree (Block at) (other_slot slot at below)
+
+agreed_state_after : (slot : ℕ) (one other : Disk) (head : Head) (count : ℕ) → Agree slot one other → Later head slot → state_after one head count ≡ state_after other head count
+unfolding state_after
+agreed_state_after slot one other head count agree after =
+    ap (λ (r : Result Snapshot LedgerFault). r >>= ends_at one head count) (agreed_told_after slot one other head count agree after)
+    ∙ bind_same (told_after other head count) (ends_at one head count) (ends_at other head count)
+    (λ newest. ap (λ (found : Option (List ℕ)). if count == 0 then Ok newest else ends_with (slot_after head count) newest found)
+    (agree_block slot one other agree (slot_after head count) (below_slot_after head count slot after.start after.each)))
+
+-- a snapshot that ends at a block is the one that was told
+ends_same : (disk : Disk) (head : Head) (count : ℕ) (newest after : Snapshot) → ends_at disk head count newest ≡ Ok after → newest ≡ after
+unfolding ends_from ends_in
+ends_same disk head count newest after h = by_test (count == 0) h
+  where
+    slot : ℕ
+    slot = slot_after head count
+
+    passed : (b : Bool) → ok_if b (Unlike slot) newest ≡ Ok after → newest ≡ after
+    passed true e = ok_same {E = LedgerFault} newest after e
+    passed false e = absurd (cc)
+
+    in_file : (file : List ℕ) → ends_from slot newest file ≡ Ok after → newest ≡ after
+    in_file file e =
+        let body = bind_ok (body_of (Block slot) file) (ends_in slot newest) after e in
+        let hash = bind_ok (hash_in (Block slot) body.0) _ after body.2 in
+        passed (same_hash hash.0 (newest_of newest.recent)) hash.2
+
+    by_test : (b : Bool) → (if b then Ok newest else ends_with slot newest (disk (Block slot))) ≡ Ok after → newest ≡ after
+    by_test true e = ok_same {E = LedgerFault} newest after e
+    by_test false e =
+        let found = bind_ok (found_or (Missing (Block slot)) (disk (Block slot))) (ends_from slot newest) after e in
+        in_file found.0 found.2
+
+pub told_of_state : (disk : Disk) (head : Head) (count : ℕ) (newest : Snapshot) → state_after disk head count ≡ Ok newest → told_after disk head count ≡ Ok newest
+unfolding state_after
+told_of_state disk head count newest h =
+    let told = bind_ok (told_after disk head count) (ends_at disk head count) newest h in
+    told.1 ∙ ap (λ (s : Snapshot). let r : Result Snapshot LedgerFault = Ok s in r) (ends_same disk head count told.0 newest told.2)
 
 -- what opening gave in steps
 pub record OpenedSo (disk : Disk) (ledger : Ledger) : Type 0 where

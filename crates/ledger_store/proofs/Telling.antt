@@ -10,12 +10,12 @@ use Rattle.ledger_folder.specs.Files.{Disk, Lists}
 use Rattle.ledger_folder.specs.Crash.{Shows}
 use Rattle.ledger_store.specs.declared.head.Head.{Head}
 use Rattle.ledger_store.specs.declared.fault.LedgerFault.{LedgerFault}
-use Rattle.ledger_store.specs.declared.fault.LedgerFault.TheVariants.{Failed, Missing, Damaged, Earlier, Apart, SlotNotLater, Exists, OutOfMemory}
+use Rattle.ledger_store.specs.declared.fault.LedgerFault.TheVariants.{Failed, Missing, Damaged, Earlier, Apart, Unlike, SlotNotLater, Exists, OutOfMemory}
 use Rattle.ledger_store.specs.Faults.{is_free, is_ledger_memory, found_or}
 use Rattle.ledger_store.specs.Heads.{head_from, head_in}
 use Rattle.ledger_store.specs.declared.opening.Ledger.{Ledger}
 use Rattle.ledger_store.specs.States.{state_in}
-use Rattle.ledger_store.specs.Opening.{full_before, full_state, head_with, opened, slot_after, slots_behind, state_after, walked}
+use Rattle.ledger_store.specs.Opening.{full_before, full_state, head_with, opened, slot_after, slots_behind, state_after, told_after, walked}
 use Rattle.ledger_store.specs.Reading.{IsOpen, Opens, Tells, TellsListed, heading}
 use Rattle.ledger_folder.specs.declared.event.Event.TheVariants.{Listed}
 use Rattle.ledger_folder.specs.declared.name.Name.TheVariants.{Chain, State}
@@ -30,6 +30,7 @@ freer (Err (Missing name)) answer h = h
 freer (Err (Damaged name at)) answer h = h
 freer (Err Earlier) answer h = h
 freer (Err (Apart slot)) answer h = h
+freer (Err (Unlike slot)) answer h = h
 freer (Err SlotNotLater) answer h = h
 freer (Err Exists) answer h = h
 freer (Err OutOfMemory) answer h = tt
@@ -70,8 +71,8 @@ part full count slots within = ap (λ (n : ℕ). drop full (take n slots)) (let 
 -- a full state, and what is walked from there
 pub tells_state : (old mid new : List Event) (head : Head) (count slot : ℕ) (slots : List ℕ) (before : Snapshot) (result : Result Snapshot LedgerFault)
     → Tells old mid (Ok before) (λ disk. state_in slot (disk (State slot))) → Tells mid new result (λ disk. walked disk slots before)
-    → slot ≡ slot_after head (full_before head.every count) → slots ≡ slots_behind head count → Tells old new result (λ disk. state_after disk head count)
-unfolding state_after
+    → slot ≡ slot_after head (full_before head.every count) → slots ≡ slots_behind head count → Tells old new result (λ disk. told_after disk head count)
+unfolding told_after
 tells_state old mid new head count slot slots before result first second at behind =
     tells_then old mid new before result (λ disk. full_state disk head count) (λ disk. walked disk (slots_behind head count))
     (subst (λ (s : ℕ). Tells old mid (Ok before) (λ disk. state_in s (disk (State s)))) at first)

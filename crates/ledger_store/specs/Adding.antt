@@ -50,6 +50,7 @@ new_files ledger block after micros = record {
 -- ---- a block that follows
 pub record Follows (before : Snapshot) (block : BlockValue) (after : Snapshot) : Type 0 where
   pub slot : block.slot ≡ after.slot
+  pub hash : newest_of after.recent ≡ block.hash
   pub recent : after.recent ≡ next_recent (take 1 after.recent) before.recent
 
 -- the chain with it

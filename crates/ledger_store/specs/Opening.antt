@@ -4,13 +4,14 @@ use Rattle.std.specs.Prelude.{ℕ, zero, suc, ◌+◌, ◌-◌, ◌%◌, ◌==�
 use Rattle.spec_base.specs.Reading.{◌>>=◌}
 use Rattle.snapshot_codec.specs.declared.snapshot.Snapshot.{Snapshot}
 use Rattle.ledger_folder.specs.Files.{Disk}
-use Rattle.ledger_folder.specs.declared.name.Name.TheVariants.{Chain, State, Changes}
+use Rattle.ledger_folder.specs.declared.name.Name.TheVariants.{Block, Chain, State, Changes}
 use Rattle.ledger_store.specs.declared.head.Head.{Head}
 use Rattle.ledger_store.specs.declared.opening.Ledger.{Ledger}
 use Rattle.ledger_store.specs.declared.fault.LedgerFault.{LedgerFault}
 use Rattle.ledger_store.specs.Heads.{head_in}
 use Rattle.ledger_store.specs.States.{state_in}
 use Rattle.ledger_store.specs.Changes.{changes_in, next_of}
+use Rattle.ledger_store.specs.Blocks.{ends_with}
 
 -- after how many of so many blocks the newest full state is
 abbrev pub full_before : ℕ → ℕ → ℕ
@@ -42,11 +43,23 @@ abbrev pub full_state : Disk → Head → ℕ → Result Snapshot LedgerFault
 full_state disk head count =
     let slot = slot_after head (full_before head.every count) in state_in slot (disk (State slot))
 
+-- the snapshot that the states and changes of so many blocks come to
+unfoldable pub told_after : Disk → Head → ℕ → Result Snapshot LedgerFault
+told_after disk head count = do
+  full ← full_state disk head count
+  walked disk (slots_behind head count) full
+
+-- the snapshot, if its newest block is the last of so many
+abbrev pub ends_at : Disk → Head → ℕ → Snapshot → Result Snapshot LedgerFault
+ends_at disk head count newest =
+    let slot = slot_after head count in
+    if count == 0 then Ok newest else ends_with slot newest (disk (Block slot))
+
 -- the snapshot after so many blocks
 unfoldable pub state_after : Disk → Head → ℕ → Result Snapshot LedgerFault
 state_after disk head count = do
-  full ← full_state disk head count
-  walked disk (slots_behind head count) full
+  newest ← told_after disk head count
+  ends_at disk head count newest
 
 -- the block after so many is one with a full state
 abbrev pub is_full : ℕ → ℕ → Bool

@@ -6,7 +6,7 @@ ghost use Rattle.block_record.specs.RecordReading.{front_of};
 ghost use Rattle.ledger_folder.specs.declared.name.Name.TheVariants.{Block as block_name};
 ghost use Rattle.ledger_store.specs.Faults.{LedgerCounts, NeverFails, field_fault, is_field_memory, is_ledger_memory, or_fault, record_refusal};
 ghost use Rattle.ledger_store.specs.Seal.{sealed};
-ghost use Rattle.ledger_store.specs.Blocks.{block_from, block_in, kept_bytes, micros_of, next_block_in, whole_block};
+ghost use Rattle.ledger_store.specs.Blocks.{block_from, block_in, ends_from, ends_in, ends_with, hash_in, kept_bytes, micros_of, next_block_in, whole_block};
 ghost use Rattle.ledger_store.specs.Reading.{Tells};
 
 use crate::fault::{FieldFault, LedgerFault, field_fault, record_fault};
@@ -14,8 +14,9 @@ use crate::place::read_file;
 use crate::seal::{body_of, seal};
 use crate::state::SLOT_PLACE;
 use block_record::{Block, Front, read_front, write_record};
-use format_fields::ByteCount;
+use format_fields::{ByteCount, hash_field};
 use ledger_folder::{Folder, Name};
+use snapshot_codec::Snapshot;
 use sol_base::{Blob, Hash32, OutOfMemory};
 use spec_base::{place, u64_field};
 use std::alloc::Global;
@@ -105,6 +106,59 @@ pub fn read_block<F: Folder>(alloc: Global, folder: &mut F, slot: u64) -> Result
 {
     let bytes = read_file(folder, Name::Block { slot })?;
     block_from(alloc, slot, bytes.as_slice())
+}
+
+/// The block hash of the record that a file's body begins with.
+fn hash_in(name: Name, body: &[u8]) -> Result<Hash32, LedgerFault>
+    ensures gives { Gives is_ledger_memory (λ hash. hash) result (hash_in name body.now) }
+    ensures quiet { NeverFails result }
+{
+    let at = body.len().saturating_sub(40);
+    match hash_field::<FieldFault>(body.len(), &body[at..]) {
+        Ok((hash, _rest)) => Ok(hash),
+        Err(fault) => Err(field_fault(name, fault)),
+    }
+}
+
+/// The snapshot after the block of a slot, if that is its newest block, whatever the hash is that its
+/// file ends in.
+#[tactic(auto, unfolding(crate::specs::Blocks::ends_in))]
+pub(crate) fn ends_in(slot: u64, newest: Snapshot, body: &[u8]) -> Result<Snapshot, LedgerFault>
+    ensures gives { Gives is_ledger_memory (λ s. s) result (ends_in slot newest body.now) }
+    ensures same { IfOk result (λ s. s ≡ newest) }
+    ensures quiet { NeverFails result }
+{
+    let hash = hash_in(Name::Block { slot }, body)?;
+    if hash != newest.recent.newest() {
+        return Err(LedgerFault::Unlike { slot });
+    }
+    Ok(newest)
+}
+
+/// The snapshot after the block of a slot, if that is its newest block.
+#[tactic(auto, unfolding(crate::specs::Blocks::ends_from))]
+fn ends_from(slot: u64, newest: Snapshot, bytes: &[u8]) -> Result<Snapshot, LedgerFault>
+    ensures gives { Gives is_ledger_memory (λ s. s) result (ends_from slot newest bytes.now) }
+    ensures same { IfOk result (λ s. s ≡ newest) }
+    ensures quiet { NeverFails result }
+{
+    let body = body_of(Name::Block { slot }, bytes)?;
+    ends_in(slot, newest, body)
+}
+
+/// The snapshot after the block of a slot, if that is its newest block.
+pub(crate) fn ends_with<F: Folder>(
+    folder: &mut F,
+    slot: u64,
+    newest: Snapshot,
+) -> Result<Snapshot, LedgerFault>
+    ensures tells { Tells (F.events folder.old) (F.events folder.new) result
+        (λ disk. ends_with slot newest (disk (block_name slot))) }
+    ensures same { IfOk result (λ s. s ≡ newest) }
+    ensures counts { LedgerCounts result (F.faults folder.old) (F.faults folder.new) }
+{
+    let bytes = read_file(folder, Name::Block { slot })?;
+    ends_from(slot, newest, bytes.as_slice())
 }
 
 /// The block of a slot, as it is kept, if the block before it in the chain has that hash.

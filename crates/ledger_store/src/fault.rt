@@ -31,6 +31,9 @@ pub enum LedgerFault {
     /// The record of a block is over another block than the one before it in the chain.
     #[error("a block is missing before slot {slot}, or that of slot {slot} is of another chain")]
     Apart { slot: u64 },
+    /// The newest block of the state after a block is not that block.
+    #[error("the state after slot {slot} is not that of its block: one of them is of another chain")]
+    Unlike { slot: u64 },
     /// The slot of a block that is to be added is not above those of the chain.
     #[error("the slot is not after the chain's")]
     SlotNotLater,

@@ -1,7 +1,7 @@
 //! Whether a block follows a snapshot.
 ghost use Rattle.std.specs.Prelude.{◌≡◌, ◌↔◌, IsTrue};
 ghost use Rattle.std.specs.Cmp.Lexicographic.{pointwise};
-ghost use Rattle.ledger_store.specs.Marks.{is_next_recent, same_mark};
+ghost use Rattle.ledger_store.specs.Marks.{is_after, is_next_recent, same_mark};
 ghost use Rattle.ledger_store.specs.Adding.{Follows};
 
 use block_record::Block;
@@ -38,9 +38,16 @@ fn is_next_recent(before: &[Mark], after: &[Mark]) -> bool
     }
 }
 
+/// Whether the snapshot is of the block's slot, and its newest block is that one.
+fn is_after(block: &Block, after: &Snapshot) -> bool
+    ensures { result ≡ is_after block.now after.now }
+{
+    block.slot == after.slot && after.recent.newest() == block.hash
+}
+
 /// Whether a block and the snapshot after it follow a snapshot, as `add` asks for.
 pub fn follows(before: &Snapshot, block: &Block, after: &Snapshot) -> bool
     ensures { IsTrue result ↔ Follows before.now block.now after.now }
 {
-    block.slot == after.slot && is_next_recent(before.recent.marks(), after.recent.marks())
+    is_after(block, after) && is_next_recent(before.recent.marks(), after.recent.marks())
 }

@@ -2,9 +2,10 @@
 ghost use Rattle.std.specs.Prelude.{◌≡◌, ◌≤◌, ◌<◌, ◌+◌, IfOk, length, slice_index, Ok};
 ghost use Rattle.snapshot_codec.specs.Snapshot.{HasWidths, IsReadable};
 ghost use Rattle.ledger_store.specs.Faults.{LedgerCounts};
-ghost use Rattle.ledger_store.specs.Opening.{is_full, next_after, state_after, stepped, walked};
+ghost use Rattle.ledger_store.specs.Opening.{ends_at, is_full, next_after, state_after, stepped, told_after, walked};
 ghost use Rattle.ledger_store.specs.Reading.{Tells};
 
+use crate::block::ends_with;
 use crate::changes::changes_at;
 use crate::fault::LedgerFault;
 use crate::head::Head;
@@ -93,7 +94,48 @@ impl Head {
     }
 }
 
-/// The snapshot after so many blocks: the newest full state before them, and the changes behind it.
+/// The snapshot that the states and changes of so many blocks come to: the newest full state before
+/// them, and the changes behind it.
+#[tactic(auto, unfolding(crate::specs::Opening::told_after))]
+fn told_after<F: Folder>(
+    alloc: Global,
+    folder: &mut F,
+    head: &Head,
+    count: usize,
+) -> Result<Snapshot, LedgerFault>
+    requires every { 1 ≤ head.now.every }
+    requires count { count ≤ length head.now.slots }
+    ensures tells { Tells (F.events folder.old) (F.events folder.new) result
+        (λ disk. told_after disk head.now count) }
+    ensures readable { IfOk result IsReadable }
+    ensures widths { IfOk result HasWidths }
+    ensures counts { LedgerCounts result (F.faults folder.old) (F.faults folder.new) }
+{
+    let full = head.full_before(count);
+    let before = state_at(alloc, folder, head.slot_after(full))?;
+    walk(alloc, folder, &head.slots.as_slice()[full..count], before)
+}
+
+/// The snapshot, if its newest block is the last of so many.
+fn ends_at<F: Folder>(
+    folder: &mut F,
+    head: &Head,
+    count: usize,
+    newest: Snapshot,
+) -> Result<Snapshot, LedgerFault>
+    requires { count ≤ length head.now.slots }
+    ensures tells { Tells (F.events folder.old) (F.events folder.new) result
+        (λ disk. ends_at disk head.now count newest) }
+    ensures same { IfOk result (λ s. s ≡ newest) }
+    ensures counts { LedgerCounts result (F.faults folder.old) (F.faults folder.new) }
+{
+    if count == 0 {
+        return Ok(newest);
+    }
+    ends_with(folder, head.slot_after(count), newest)
+}
+
+/// The snapshot after so many blocks, whose newest block is the last of them.
 #[tactic(auto, unfolding(crate::specs::Opening::state_after))]
 pub fn read_state<F: Folder>(
     alloc: Global,
@@ -110,9 +152,8 @@ pub fn read_state<F: Folder>(
     ensures widths { IfOk result HasWidths }
     ensures counts { LedgerCounts result (F.faults folder.old) (F.faults folder.new) }
 {
-    let full = head.full_before(count);
-    let before = state_at(alloc, folder, head.slot_after(full))?;
-    walk(alloc, folder, &head.slots.as_slice()[full..count], before)
+    let newest = told_after(alloc, folder, head, count)?;
+    ends_at(folder, head, count, newest)
 }
 
 /// The snapshot after one more block, from the one before it: of the block's files the one that counts

@@ -5,16 +5,18 @@ ghost use Rattle.spec_base.specs.Reading.{Gives};
 ghost use Rattle.snapshot_codec.specs.Snapshot.{HasWidths, IsReadable};
 ghost use Rattle.ledger_folder.specs.Files.{Disk};
 ghost use Rattle.ledger_folder.specs.Crash.{Shows};
-ghost use Rattle.ledger_folder.specs.declared.name.Name.TheVariants.{State};
+ghost use Rattle.ledger_folder.specs.declared.name.Name.TheVariants.{Block, State};
 ghost use Rattle.ledger_store.specs.Faults.{LedgerCounts, NeverFails, is_free};
 ghost use Rattle.ledger_store.specs.States.{state_from};
-ghost use Rattle.ledger_store.specs.Opening.{opened, state_after};
+ghost use Rattle.ledger_store.specs.Blocks.{ends_with};
+ghost use Rattle.ledger_store.specs.Opening.{ends_at, opened, state_after, told_after};
 ghost use Rattle.ledger_store.specs.Ahead.{found_in, told_by};
 ghost use Rattle.ledger_store.specs.Adding.{OnlyReads};
 ghost use Rattle.ledger_store.specs.Reading.{IsOpen, Tells, TellsListed};
 ghost use Rattle.ledger_store.specs.Watching.{IsOpening, finished, first_unsealed, refusal, seen_files, settled, told_of, unsealed_fault};
 
 use crate::ahead::{Ahead, begin_files, walk_by};
+use crate::block::ends_in;
 use crate::fault::LedgerFault;
 use crate::head::{Head, read_head};
 use crate::opening::Ledger;
@@ -137,9 +139,81 @@ fn told_by<T: Threads>(
     walk_by(threads, alloc, ahead, before, files)
 }
 
-/// The snapshot that the files come to, as `read_state` has it but for the hashes: threads look at
-/// them, and read what blocks changed.
+/// The snapshot that the states and changes come to, but for the hashes: threads look at them, and
+/// read what blocks changed.
 fn read_beside<T: Threads, F: Folder>(
+    threads: &T,
+    alloc: Global,
+    folder: &mut F,
+    head: &Head,
+    count: usize,
+    files: &mut Items<Watched>,
+) -> Result<Snapshot, LedgerFault>
+    requires every { 1 ≤ head.now.every }
+    requires count { count ≤ length head.now.slots }
+    ensures tells { Tells (F.events folder.old) (F.events folder.new) (settled files.new result)
+        (λ disk. settled files.old (told_after disk head.now count)) }
+    ensures readable { IfOk result IsReadable }
+    ensures widths { IfOk result HasWidths }
+    ensures reads { OnOk result (OnlyReads (F.events folder.old) (F.events folder.new)) }
+    ensures counts { LedgerCounts result (F.faults folder.old) (F.faults folder.new) }
+{
+    let full = head.full_before(count);
+    let slot = head.slot_after(full);
+    let slots = &head.slots.as_slice()[full..count];
+    let begun = begin_reading(threads, alloc, folder, slot, slots)?;
+    told_by(threads, alloc, slot, begun, files)
+}
+
+/// The snapshot, if its newest block is that of the slot's file, while a thread looks at the hash that
+/// the file ends in.
+fn block_told<T: Threads, F: Folder>(
+    threads: &T,
+    alloc: Global,
+    folder: &mut F,
+    slot: u64,
+    newest: Snapshot,
+    files: &mut Items<Watched>,
+) -> Result<Snapshot, LedgerFault>
+    ensures tells { Tells (F.events folder.old) (F.events folder.new) (settled files.new result)
+        (λ disk. settled files.old (ends_with slot newest (disk (Block slot)))) }
+    ensures same { IfOk result (λ s. s ≡ newest) }
+    ensures reads { OnOk result (OnlyReads (F.events folder.old) (F.events folder.new)) }
+    ensures counts { LedgerCounts result (F.faults folder.old) (F.faults folder.new) }
+{
+    let name = Name::Block { slot };
+    let bytes = read_file(folder, name)?;
+    let file = Watched::begin(threads, alloc, name, bytes)?;
+    let told = ends_in(slot, newest, unsealed(file.as_slice()));
+    files.push(file)?;
+    told
+}
+
+/// The snapshot, if its newest block is the last of so many.
+fn ends_beside<T: Threads, F: Folder>(
+    threads: &T,
+    alloc: Global,
+    folder: &mut F,
+    head: &Head,
+    count: usize,
+    newest: Snapshot,
+    files: &mut Items<Watched>,
+) -> Result<Snapshot, LedgerFault>
+    requires { count ≤ length head.now.slots }
+    ensures tells { Tells (F.events folder.old) (F.events folder.new) (settled files.new result)
+        (λ disk. settled files.old (ends_at disk head.now count newest)) }
+    ensures same { IfOk result (λ s. s ≡ newest) }
+    ensures reads { OnOk result (OnlyReads (F.events folder.old) (F.events folder.new)) }
+    ensures counts { LedgerCounts result (F.faults folder.old) (F.faults folder.new) }
+{
+    if count == 0 {
+        return Ok(newest);
+    }
+    block_told(threads, alloc, folder, head.slot_after(count), newest, files)
+}
+
+/// The snapshot after so many blocks, as `read_state` has it but for the hashes: threads look at them.
+fn newest_beside<T: Threads, F: Folder>(
     threads: &T,
     alloc: Global,
     folder: &mut F,
@@ -156,11 +230,8 @@ fn read_beside<T: Threads, F: Folder>(
     ensures reads { OnOk result (OnlyReads (F.events folder.old) (F.events folder.new)) }
     ensures counts { LedgerCounts result (F.faults folder.old) (F.faults folder.new) }
 {
-    let full = head.full_before(count);
-    let slot = head.slot_after(full);
-    let slots = &head.slots.as_slice()[full..count];
-    let begun = begin_reading(threads, alloc, folder, slot, slots)?;
-    told_by(threads, alloc, slot, begun, files)
+    let newest = read_beside(threads, alloc, folder, head, count, files)?;
+    ends_beside(threads, alloc, folder, head, count, newest, files)
 }
 
 /// Begins to open a chain: the snapshot after its last block is read, while threads look at the hashes
@@ -182,7 +253,7 @@ pub fn begin_opening<T: Threads, F: Folder>(
     let head = read_head(folder)?;
     let mut files = Items::new(alloc);
     let count = head.slots.len();
-    match read_beside(threads, alloc, folder, &head, count, &mut files) {
+    match newest_beside(threads, alloc, folder, &head, count, &mut files) {
         Ok(newest) => {
             let ledger = Ledger { head, newest };
             Ok(Opening { ledger, files })

@@ -25,9 +25,9 @@ pub returns-in-Ok-clause-tells : goal.returns-in-Ok-clause-tells
 returns-in-Ok-clause-tells g c =
     let old = g.F.Folder.events c.args.folder.now in
     let mid = g.F.Folder.events c.read_head.new.folder in
-    let new = g.F.Folder.events c.read_beside.new.folder in
+    let new = g.F.Folder.events c.newest_beside.new.folder in
     let head = c.in_ok-head.head in
-    let files = c.read_beside.new.files in
+    let files = c.newest_beside.new.files in
     let newest = c.in-Ok.newest in
     let told = tells_alone c.new-files.result files mid new head c.len-count.result (Ok newest) c.new-files.ensures c.len-count.ensures c.in-Ok.ensures.tells in
     tells_opened old mid new head (settled files (Ok newest))
@@ -38,9 +38,9 @@ pub returns-in-Ok-clause-opens : goal.returns-in-Ok-clause-opens
 returns-in-Ok-clause-opens g c =
     let old = g.F.Folder.events c.args.folder.now in
     let mid = g.F.Folder.events c.read_head.new.folder in
-    let new = g.F.Folder.events c.read_beside.new.folder in
+    let new = g.F.Folder.events c.newest_beside.new.folder in
     let head = c.in_ok-head.head in
-    let files = c.read_beside.new.files in
+    let files = c.newest_beside.new.files in
     let newest = c.in-Ok.newest in
     is_opening files old mid new head newest c.in_ok-head.ensures.tells c.in_ok-head.ensures.lists
     (tells_alone c.new-files.result files mid new head c.len-count.result (Ok newest) c.new-files.ensures c.len-count.ensures c.in-Ok.ensures.tells) c.in-Ok.ensures.widths
@@ -49,9 +49,9 @@ pub returns-in-Err-clause-tells : goal.returns-in-Err-clause-tells
 returns-in-Err-clause-tells g c =
     let old = g.F.Folder.events c.args.folder.now in
     let mid = g.F.Folder.events c.read_head.new.folder in
-    let new = g.F.Folder.events c.read_beside.new.folder in
+    let new = g.F.Folder.events c.newest_beside.new.folder in
     let head = c.in_ok-head.head in
-    let files = c.read_beside.new.files in
+    let files = c.newest_beside.new.files in
     let fault = c.in-Err.fault in
     let told = tells_alone c.new-files.result files mid new head c.len-count.result (Err fault) c.new-files.ensures c.len-count.ensures c.in-Err.ensures.tells in
     subst (λ (e : LedgerFault). TellsListed {X = Ledger} old new (Err e) opened) (sym c.refusal.ensures)
@@ -61,10 +61,10 @@ pub returns-in-Err-clause-counts : goal.returns-in-Err-clause-counts
 returns-in-Err-clause-counts g c =
     let old = g.F.Folder.faults c.args.folder.now in
     let mid = g.F.Folder.faults c.read_head.new.folder in
-    let new = g.F.Folder.faults c.read_beside.new.folder in
+    let new = g.F.Folder.faults c.newest_beside.new.folder in
     subst (λ (e : LedgerFault). LedgerCounts {A = Ledger} (Err e) old new) (sym c.refusal.ensures)
-    (subst (λ (n : ℕ). LedgerCounts {A = Ledger} (Err (refusal c.read_beside.new.files c.in-Err.fault)) n new) c.in_ok-head.ensures.counts
-    (refusal_counts c.read_beside.new.files c.in-Err.fault mid new c.in-Err.ensures.counts))
+    (subst (λ (n : ℕ). LedgerCounts {A = Ledger} (Err (refusal c.newest_beside.new.files c.in-Err.fault)) n new) c.in_ok-head.ensures.counts
+    (refusal_counts c.newest_beside.new.files c.in-Err.fault mid new c.in-Err.ensures.counts))
 
 pub returns-in-Ok-clause-reads : goal.returns-in-Ok-clause-reads
-returns-in-Ok-clause-reads g c = reads_then (g.F.Folder.events c.args.folder.now) (g.F.Folder.events c.read_head.new.folder) (g.F.Folder.events c.read_beside.new.folder) c.in_ok-head.ensures.reads c.in-Ok.ensures.reads
+returns-in-Ok-clause-reads g c = reads_then (g.F.Folder.events c.args.folder.now) (g.F.Folder.events c.read_head.new.folder) (g.F.Folder.events c.newest_beside.new.folder) c.in_ok-head.ensures.reads c.in-Ok.ensures.reads

@@ -2,7 +2,7 @@ use Rattle.std.proofs.Common.{◌≡◌, ◌-◌, ℕ, List, take, drop, Result,
 use Rattle.std.proofs.lemmas.Result.{err_from_is_err_and}
 use Rattle.snapshot_codec.specs.declared.snapshot.Snapshot.{Snapshot}
 use Rattle.ledger_store.specs.declared.fault.LedgerFault.{LedgerFault}
-use Rattle.ledger_store.specs.Opening.{slot_after, slots_behind, state_after}
+use Rattle.ledger_store.specs.Opening.{slot_after, slots_behind, told_after}
 use Rattle.ledger_store.specs.Reading.{Tells}
 use Rattle.ledger_store.specs.Watching.{seen_files, settled}
 use Rattle.ledger_store.proofs.Telling.{part}
@@ -18,7 +18,7 @@ returns-in_err-begun-clause-tells g c =
     let slots = take (c.args.count - c.full_before-full.result) (drop c.full_before-full.result c.as_slice.result.now) in
     let p = err_from_is_err_and c.from_residual.result c.from_residual.ensures.1 in
     let same = p.1 ∙ ap (λ (e : LedgerFault). let r : Result Snapshot LedgerFault = Err e in r) p.2 in
-    subst (λ (r : Result Snapshot LedgerFault). Tells old new (settled files r) (λ disk. settled files (state_after disk head c.args.count))) (sym same)
+    subst (λ (r : Result Snapshot LedgerFault). Tells old new (settled files r) (λ disk. settled files (told_after disk head c.args.count))) (sym same)
     (tells_refused files files old new head c.args.count c.slot_after-slot.result slots c.in_err-begun.field-0.0
     refl c.in_err-begun.ensures.tells
     (c.slot_after-slot.ensures ∙ ap (slot_after head) c.full_before-full.ensures))

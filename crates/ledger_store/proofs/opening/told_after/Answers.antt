@@ -1,7 +1,7 @@
 use Rattle.std.proofs.Common.{◌≡◌, ◌-◌, ℕ, List, take, drop, sym, ◌∙◌, ap, arith}
 use Rattle.ledger_store.specs.Opening.{slot_after, slots_behind}
 use Rattle.ledger_store.proofs.Telling.{part, tells_state}
-use Rattle.ledger_store.proofs.opening.read_state.Goals as goal
+use Rattle.ledger_store.proofs.opening.told_after.Goals as goal
 
 pub returns-clause-tells : goal.returns-clause-tells
 returns-clause-tells g c =
