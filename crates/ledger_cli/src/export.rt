@@ -6,7 +6,9 @@ use crate::chain::{OpenChain, copied, open_chain, state_after, unread};
 use crate::failures::caused;
 use command_parts::{Answer, Given, INPUT_REFUSED, WRITE_FAILED, noted, written};
 use ledger_folder::{Failure, Folder};
-use ledger_store::{Changes, Head, Kept, LedgerFault, changes_between, next_state, read_next_block};
+use ledger_store::{
+    Changes, Head, Kept, LedgerFault, changes_between, next_state, read_next_block,
+};
 use ledger_tables::{
     BlockRows, TablesFault, account_rows, add_accounts, add_block, add_indexes, add_tables,
     block_rows,

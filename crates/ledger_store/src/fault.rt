@@ -24,9 +24,7 @@ pub enum LedgerFault {
     #[error("{name} is damaged at byte {at}")]
     Damaged { name: Name, at: usize },
     /// The file that says what the chain is is of an earlier version.
-    #[error(
-        "the file chain is of an earlier version: `chain state` of the program that made it writes its newest state, and `chain new` begins a chain with that"
-    )]
+    #[error("the file chain is of an earlier version: `chain state` of the program that made it writes its newest state, and `chain new` begins a chain with that")]
     Earlier,
     /// The record of a block is over another block than the one before it in the chain.
     #[error("a block is missing before slot {slot}, or that of slot {slot} is of another chain")]

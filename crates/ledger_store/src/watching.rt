@@ -209,7 +209,14 @@ fn ends_beside<T: Threads, F: Folder>(
     if count == 0 {
         return Ok(newest);
     }
-    block_told(threads, alloc, folder, head.slot_after(count), newest, files)
+    block_told(
+        threads,
+        alloc,
+        folder,
+        head.slot_after(count),
+        newest,
+        files,
+    )
 }
 
 /// The snapshot after so many blocks, as `read_state` has it but for the hashes: threads look at them.
