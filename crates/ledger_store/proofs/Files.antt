@@ -117,6 +117,9 @@ pub head_again : (every start : ℕ) → 1 ≤ every → every < 2 ^ 32 → star
 unfolding head_from head_of
 head_again every start some few fits = rw (unsealed Chain (head_bytes every start), head_fields (length (head_bytes every start)) every start some few fits) refl
 
+micros_take_eight : (micros : ℕ) → length (to_le_bytes w64 micros) ≡ 8
+micros_take_eight micros = refl
+
 -- the block hash of a file
 hash_again : (name : Name) (block : BlockValue) (micros : ℕ) → IsHash block.hash → hash_in name (kept_bytes block micros) ≡ Ok block.hash
 hash_again name block micros is =
@@ -125,7 +128,7 @@ hash_again name block micros is =
     let body : List ℕ = kept_bytes block micros in
     let split : body ≡ front ++ (hash_bytes block.hash ++ end) = append_assoc front (hash_bytes block.hash) end in
     let place : length front ≡ length body - 40 =
-    omega (arith, ap length split, length-append front (hash_bytes block.hash ++ end), length-append (hash_bytes block.hash) end, is, length_to_le_bytes w64 micros) in
+    omega (arith, ap length split, length-append front (hash_bytes block.hash ++ end), length-append (hash_bytes block.hash) end, is, micros_take_eight micros) in
     let behind : drop (length body - 40) body ≡ hash_bytes block.hash ++ end =
     ap (drop (length body - 40)) split ∙ drop_at front (hash_bytes block.hash ++ end) (length body - 40) place in
     rw (behind, (hash_reads Field (length body)).again block.hash end is) refl

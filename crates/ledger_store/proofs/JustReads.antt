@@ -1,5 +1,5 @@
 -- Calls that only read.
-use Rattle.std.proofs.Common.{◌≡◌, ◌++◌, [], ◌∷◌, ℕ, List, Option, sym, ◌∙◌, ap, append_assoc}
+use Rattle.std.proofs.Common.{◌≡◌, ◌++◌, [], ◌∷◌, ℕ, List, Option, Result, Ok, Err, OnOk, sym, ◌∙◌, ap, append_assoc}
 use Rattle.ledger_folder.specs.declared.name.Name.{Name}
 use Rattle.ledger_folder.specs.declared.event.Event.{Event}
 use Rattle.ledger_folder.specs.declared.event.Event.TheVariants.{Wrote, Synced, Spoiled, Renamed, RenameFailed, FolderSynced, Read, Listed}
@@ -31,3 +31,8 @@ reads_then old mid new first second = (
   are_both second.0 first.0 second.1 first.1,
   second.2 ∙ ap (λ (events : List Event). second.0 ++ events) first.2 ∙ sym (append_assoc second.0 first.0 old),
 )
+
+-- and if the later one succeeds
+pub reads_then_ok : {X E : Type 0} (result : Result X E) (old mid new : List Event) → OnlyReads old mid → OnOk result (OnlyReads mid new) → OnOk result (OnlyReads old new)
+reads_then_ok (Ok x) old mid new first second = reads_then old mid new first second
+reads_then_ok (Err e) old mid new first second = tt

@@ -6,7 +6,7 @@ use Rattle.ledger_store.specs.Opening.{state_after}
 use Rattle.ledger_store.specs.Reading.{Tells}
 use Rattle.ledger_store.specs.Watching.{settled}
 use Rattle.ledger_store.proofs.Beside.{newest_refused, newest_settled}
-use Rattle.ledger_store.proofs.JustReads.{reads_then}
+use Rattle.ledger_store.proofs.JustReads.{reads_then_ok}
 use Rattle.ledger_store.proofs.watching.newest_beside.Goals as goal
 
 pub returns-in_err-newest-clause-tells : goal.returns-in_err-newest-clause-tells
@@ -29,4 +29,4 @@ returns-clause-tells g c =
 
 pub returns-clause-reads : goal.returns-clause-reads
 returns-clause-reads g c =
-    reads_then (g.F.Folder.events c.args.folder.now) (g.F.Folder.events c.read_beside.new.folder) (g.F.Folder.events c.ends_beside.new.folder) c.in_ok-newest.ensures.reads c.ends_beside.ensures.reads
+    reads_then_ok c.ends_beside.result (g.F.Folder.events c.args.folder.now) (g.F.Folder.events c.read_beside.new.folder) (g.F.Folder.events c.ends_beside.new.folder) c.in_ok-newest.ensures.reads c.ends_beside.ensures.reads
