@@ -1,5 +1,5 @@
 //! Lanes over any desk, without barriers.
-ghost use Rattle.std.specs.Prelude.{◌≡◌, ◌≢◌, ◌<◌, ◌≤◌, [], OnOk, IfOk, length, vec_capacity, None, All};
+ghost use Rattle.std.specs.Prelude.{◌≡◌, ◌≢◌, ◌<◌, ◌≤◌, [], OnOk, IfOk, length, ◌-◌, vec_capacity, None, All};
 ghost use mathlib.Core.List.{IsPrefix};
 ghost use Rattle.bank_core.specs.Desks.{Stays};
 ghost use Rattle.bank_core.specs.Origins.{AllDoneAfter};
@@ -154,7 +154,7 @@ fn run_thread<W: Work, D: Desk<W, Loan = Loan<W>>, G: Gate, R: Wait>(
     }
 }
 
-/// Splits a pass for each further thread, as far as there are lanes and memory for them.
+/// Splits a pass for each thread but the caller's, as far as there are lanes and memory for them.
 fn make_passes<W: Work, D: Desk<W>, G: Gate, R: Wait>(
     rt: &R,
     desk: &D,
@@ -165,6 +165,7 @@ fn make_passes<W: Work, D: Desk<W>, G: Gate, R: Wait>(
     requires desk { D.is_of desk.now pass.old }
     requires idle { IsIdle (D.view pass.old) }
     requires empty { passes.old.items ≡ [] }
+    ensures few { length passes.new.items ≤ lanes.now.threads - 1 }
     ensures desk { D.is_of desk.now pass.new }
     ensures idle { IsIdle (D.view pass.new) }
     ensures on { WentOn (D.view pass.old) (D.view pass.new) }

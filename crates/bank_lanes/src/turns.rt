@@ -231,6 +231,7 @@ fn gives_way(units: u64, ready: u32, groups: usize) -> bool {
 /// ready; beside others, where it gives way after it has handed in.
 fn holds_off(company: Company, settles: bool, units: u64, ready: u32, groups: usize) -> bool
     ensures alone { company ≡ Alone → result ≡ true → 1 < ready }
+    ensures many { company ≡ Alone → 1 < ready → result ≡ true }
     ensures others { company ≡ Others → settles ≡ false → result ≡ false }
 {
     match company {

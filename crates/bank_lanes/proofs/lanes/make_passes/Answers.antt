@@ -1,4 +1,4 @@
-use Rattle.std.proofs.Common.{All, ap, sym, subst, ◌∙◌}
+use Rattle.std.proofs.Common.{rules, All, ap, sym, subst, ◌∙◌}
 use base.Growing.{prefix_trans}
 use Rattle.std.proofs.lemmas.List.Elements.{All-push}
 use Rattle.bank_law.specs.History.{holds, returns}
@@ -28,6 +28,7 @@ loop-preserved g c =
     × HoldsNothing (g.D.Desk.lanes_of p) (g.D.Desk.view p)
     × CommitBehind gate (g.D.Desk.lanes_of p) (g.D.Desk.view p) in
     record {
+      few = search rules;
       desk = c.in-Made.ensures.desk;
       idle = record { free = ap holds same ∙ i.idle.free; once = ap returns same ∙ i.idle.once };
       on = record {

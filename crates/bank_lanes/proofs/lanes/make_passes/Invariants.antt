@@ -1,9 +1,10 @@
-use Rattle.std.proofs.Common.{All}
+use Rattle.std.proofs.Common.{◌≡◌, ◌+◌, All, length}
 use Rattle.bank_lanes.specs.Passes.{CommitBehind, HoldsNothing, IsIdle, StaysBehind, StaysFree, WentOn}
 use Rattle.bank_lanes.proofs.lanes.make_passes.Given as goal
 
 abbrev pub invariant-loop : goal.invariant-loop
 invariant-loop g l = record {
+  few : length l.passes.items + 1 ≡ l.counter;
   desk : g.D.Desk.is_of l.desk l.pass;
   idle : IsIdle (g.D.Desk.view l.pass);
   on : WentOn (g.D.Desk.view l.initial.pass) (g.D.Desk.view l.pass);
