@@ -1,5 +1,5 @@
 //! Desks: cores that lanes share.
-ghost use Rattle.std.specs.Prelude.{⊤, ◌≡◌, ℕ, ◌<◌, List, [], ◌∷◌, ◌++◌, Some, None, true};
+ghost use Rattle.std.specs.Prelude.{⊤, ◌≡◌, ℕ, ◌<◌, List, [], ◌∷◌, ◌++◌, Some, None, true, IfOk, IfErr};
 ghost use Rattle.bank_core.specs.Counts.{ready_count};
 ghost use Rattle.bank_core.specs.Origins.{state_after, IsLegalFor, IsLeastReadyAfter, AllDoneAfter};
 ghost use Rattle.bank_law.specs.History.{PassView, own, holds, returns};
@@ -7,7 +7,7 @@ ghost use Rattle.bank_law.specs.declared.event.EventKind.TheVariants.{Grant, Com
 ghost use Rattle.bank_core.specs.Effects.{effects_seen};
 ghost use Rattle.bank_core.specs.Takes.{IsNotNowAfter, ReadsLeastAfter, MatchTake};
 ghost use Rattle.bank_core.specs.Lanes.{AreApart, is_one_of};
-ghost use Rattle.bank_core.specs.Desks.{Stays, OneMore, IsNew, TookIn, LoanView, MatchSplit, after_event, before_last, SeesNoneOf, SeesOneOf};
+ghost use Rattle.bank_core.specs.Desks.{Stays, OneMore, IsNew, TookIn, LoanView, MatchLend, MatchSplit, after_event, before_last, SeesNoneOf, SeesOneOf};
 ghost use Rattle.bank_core.specs.declared.origin.Origin.{Origin};
 
 use crate::loan::Take;
@@ -20,6 +20,15 @@ use std::sync::Wait;
 pub enum Split<P> {
     Made(P),
     AllMade,
+}
+
+/// What a lend under a turn finds: a loan, or how many positions are held where none is ready, or that
+/// all are done.
+pub enum Lend<L> {
+    Lent(L),
+    NotNow { held: u32 },
+    Finished,
+    OutOfMemory,
 }
 
 /// A core that lanes share. Its history is one legal list of events, of which each pass has seen a
@@ -47,6 +56,12 @@ pub trait Desk<W: Work>: Sync {
     /// What a loan is seen as.
     ghost loan: { Self.Loan → LoanView W.Told };
 
+    /// A loan whose values only `perform` reaches: what a turn lends, and takes back.
+    type Lent;
+
+    /// What it is seen as.
+    ghost lent: { Self.Lent → LoanView W.Told };
+
     /// A loan whose values are let go.
     type Spent: Send;
 
@@ -63,6 +78,9 @@ pub trait Desk<W: Work>: Sync {
     ghost turn_view: { Self.Turn → PassView };
 
     ghost turn_lanes: { Self.Turn → List ℕ };
+
+    /// The turn of this pass, which has this lane, is out.
+    ghost is_away: { Self → Self.Pass → ℕ → Type 0 };
 
     /// Lends the least ready position to the pass's lane.
     fn take<R: Wait>(&self, rt: &R, pass: &mut Self::Pass) -> Take<W>
@@ -160,14 +178,31 @@ pub trait Desk<W: Work>: Sync {
         ensures one { is_one_of (lanes_of pass.now) result ≡ true }
         ensures own { (view pass.now).mine ≡ own (view pass.now).seen result };
 
-    /// Lets the values of a loan go.
-    fn spend(&self, given: Self::Loan) -> Self::Spent
-        ensures { spent result ≡ loan given };
+    /// The position that is lent.
+    fn position(&self, given: &Self::Lent) -> u32
+        ensures { result ≡ (lent given.now).position };
+
+    /// Performs what is lent, and lets its values go. Where the work finds no memory it stays lent.
+    /// While the turn of a pass is out nothing is performed under it: it is of no desk.
+    fn perform(
+        &self,
+        pass: &Self::Pass,
+        given: Self::Lent,
+        work: &W,
+    ) -> Result<(Self::Spent, Effects), Self::Lent>
+        requires desk { is_of self.now pass.now }
+        requires told { (origin self.now).told ≡ W.told work.now }
+        requires origin { (lent given).origin ≡ origin self.now }
+        ensures spent { IfOk result (λ done. spent done.0 ≡ lent given) }
+        ensures right { IfOk result (λ done. effects_seen done.1
+            ≡ (W.job (origin self.now).told).effects (lent given).position (lent given).values) }
+        ensures kept { IfErr result (λ kept. lent kept ≡ lent given) };
 
     /// Waits for the turn. Until it is ended, the pass is of no desk.
     fn begin<R: Wait>(&self, rt: &R, pass: &mut Self::Pass) -> Self::Turn
         requires desk { is_of self.now pass.old }
         ensures desk { is_turn_of self.now result }
+        ensures away { is_away self.now pass.new (turn_view result).lane }
         ensures stays { Stays (view pass.old) (turn_view result) }
         ensures turn { (view pass.old).turns < (turn_view result).turns }
         ensures same { (turn_view result).mine ≡ (view pass.old).mine }
@@ -176,22 +211,23 @@ pub trait Desk<W: Work>: Sync {
         ensures legal { IsLegalFor W.job (origin self.now) (turn_view result).seen };
 
     /// Lends the least ready position to a lane of the turn's pass.
-    fn lend(&self, turn: &mut Self::Turn, lane: u32) -> Take<W>
+    fn lend(&self, turn: &mut Self::Turn, lane: u32) -> Lend<Self::Lent>
         requires desk { is_turn_of self.now turn.old }
         requires lane { is_one_of (turn_lanes turn.old) lane ≡ true }
         requires free { holds (own (turn_view turn.old).seen lane) ≡ None }
         ensures desk { is_turn_of self.now turn.new }
         ensures lanes { turn_lanes turn.new ≡ turn_lanes turn.old }
         ensures legal { IsLegalFor W.job (origin self.now) (turn_view turn.new).seen }
-        ensures event { MatchTake result
-            (λ loan. turn_view turn.new
-            ≡ after_event (turn_view turn.old) Grant lane loan.position)
+        ensures event { MatchLend result
+            (λ given. turn_view turn.new
+            ≡ after_event (turn_view turn.old) Grant lane (lent given).position)
             (λ held. turn_view turn.new ≡ turn_view turn.old)
             (turn_view turn.new ≡ turn_view turn.old)
             (turn_view turn.new ≡ turn_view turn.old) }
-        ensures take { MatchTake result
-            (λ loan. (loan.lane ≡ lane) × (loan.origin.value ≡ origin self.now)
-            × IsLeastReadyAfter W.job (origin self.now) (turn_view turn.old).seen loan.position)
+        ensures lend { MatchLend result
+            (λ given. ((lent given).lane ≡ lane) × ((lent given).origin ≡ origin self.now)
+            × IsLeastReadyAfter W.job (origin self.now) (turn_view turn.old).seen
+            (lent given).position)
             (λ held. IsNotNowAfter W.job (origin self.now) (turn_view turn.old).seen held)
             (AllDoneAfter W.job (origin self.now) (turn_view turn.old).seen)
             (ReadsLeastAfter W.job (origin self.now) (turn_view turn.old).seen) };
@@ -213,18 +249,18 @@ pub trait Desk<W: Work>: Sync {
 
     /// Puts the values of a loan that one of the turn's lanes holds back. A lane does so at most
     /// once.
-    fn put_back(&self, turn: &mut Self::Turn, given: Self::Loan)
+    fn put_back(&self, turn: &mut Self::Turn, given: Self::Lent)
         requires desk { is_turn_of self.now turn.old }
-        requires origin { (loan given).origin ≡ origin self.now }
-        requires lane { is_one_of (turn_lanes turn.old) (loan given).lane ≡ true }
-        requires held { holds (own (turn_view turn.old).seen (loan given).lane)
-            ≡ Some (loan given).position }
-        requires once { returns (own (turn_view turn.old).seen (loan given).lane) ≡ 0 }
+        requires origin { (lent given).origin ≡ origin self.now }
+        requires lane { is_one_of (turn_lanes turn.old) (lent given).lane ≡ true }
+        requires held { holds (own (turn_view turn.old).seen (lent given).lane)
+            ≡ Some (lent given).position }
+        requires once { returns (own (turn_view turn.old).seen (lent given).lane) ≡ 0 }
         ensures desk { is_turn_of self.now turn.new }
         ensures lanes { turn_lanes turn.new ≡ turn_lanes turn.old }
         ensures legal { IsLegalFor W.job (origin self.now) (turn_view turn.new).seen }
         ensures event { turn_view turn.new
-            ≡ after_event (turn_view turn.old) Return (loan given).lane (loan given).position };
+            ≡ after_event (turn_view turn.old) Return (lent given).lane (lent given).position };
 
     /// How many positions are ready.
     fn ready_count(&self, turn: &Self::Turn) -> u32
@@ -238,9 +274,10 @@ pub trait Desk<W: Work>: Sync {
         requires desk { is_turn_of self.now turn.now }
         ensures { result ≡ lanes self.now };
 
-    /// Ends the turn, and gives its pass back.
+    /// Ends the turn, and gives its pass back, which is the one that it came from.
     fn end(&self, pass: &mut Self::Pass, turn: Self::Turn)
         requires desk { is_turn_of self.now turn }
+        requires away { is_away self.now pass.old (turn_view turn).lane }
         ensures desk { is_of self.now pass.new }
         ensures view { view pass.new ≡ turn_view turn }
         ensures lanes { lanes_of pass.new ≡ turn_lanes turn };

@@ -3,11 +3,10 @@ ghost use Rattle.std.specs.Prelude.{◌≡◌, ◌≢◌, ℕ, List, All, true, 
 ghost use Rattle.bank_law.specs.declared.event.Event.{Event};
 ghost use Rattle.bank_lanes.specs.Gates.{HasPassedOnce};
 ghost use Rattle.bank_lanes.specs.Groups.{IsEmpty, IsHeldBy, IsHolding, IsNewSeat, IsOf, IsPassed, IsSeatOf, AreFilledFrom, AreSeats, HasKept, PassForEach, PassesFor, seat_lanes};
-ghost use Rattle.bank_lanes.specs.Passes.{SeesLoans};
 ghost use Rattle.bank_lanes.specs.declared.group.Holding.TheVariants.{Nothing};
 
 use crate::gate::{Gate, Passes};
-use bank_core::{Desk, Effects, Loan, Work};
+use bank_core::{Desk, Effects, Work};
 use std::mem;
 
 /// What a lane number holds: nothing, a loan, or one that is performed, with its effects.
@@ -86,54 +85,57 @@ impl<L, S> GroupSeat<L, S> {
 
 /// Passes the gate and performs a loan, whose values are let go then. Where the work finds no memory
 /// the loan stays.
-fn performed<W: Work, D: Desk<W, Loan = Loan<W>>, G: Gate>(
+fn performed<W: Work, D: Desk<W>, G: Gate>(
     desk: &D,
-    loan: Loan<W>,
+    pass: &D::Pass,
+    lent: D::Lent,
     passes: &mut Passes,
     work: &W,
     gate: &G,
-) -> Holding<Loan<W>, D::Spent>
-    requires loans { SeesLoans D.loan }
+) -> Holding<D::Lent, D::Spent>
+    requires desk { D.is_of desk.now pass.now }
     requires told { (D.origin desk.now).told ≡ W.told work.now }
-    requires of { loan.origin.value ≡ D.origin desk.now }
-    ensures once { HasPassedOnce (G.is_passed gate.now) passes.old loan.position passes.new }
+    requires of { (D.lent lent).origin ≡ D.origin desk.now }
+    ensures once { HasPassedOnce (G.is_passed gate.now) passes.old (D.lent lent).position
+        passes.new }
     ensures some { result ≢ Nothing }
     ensures passed { IsPassed (G.is_passed gate.now) D.spent result passes.new }
     ensures holding { (lane : ℕ) (seen : List Event)
-        → IsHeldBy (D.origin desk.now) lane seen (D.loan loan)
-        → IsHolding D.loan D.spent W.job (D.origin desk.now) result lane seen }
+        → IsHeldBy (D.origin desk.now) lane seen (D.lent lent)
+        → IsHolding D.lent D.spent W.job (D.origin desk.now) result lane seen }
 {
-    passes.pass(gate, loan.position());
-    match work.perform(loan.position(), loan.values()) {
-        Ok(effects) => Holding::Performed(desk.spend(loan), effects),
-        Err(_) => Holding::Loan(loan),
+    passes.pass(gate, desk.position(&lent));
+    match desk.perform(pass, lent, work) {
+        Ok((spent, effects)) => Holding::Performed(spent, effects),
+        Err(kept) => Holding::Loan(kept),
     }
 }
 
 /// Passes the gate and performs the loan in a seat, if there is one.
-fn perform<W: Work, D: Desk<W, Loan = Loan<W>>, G: Gate>(
+fn perform<W: Work, D: Desk<W>, G: Gate>(
     desk: &D,
-    seat: &mut GroupSeat<Loan<W>, D::Spent>,
+    pass: &D::Pass,
+    seat: &mut GroupSeat<D::Lent, D::Spent>,
     work: &W,
     gate: &G,
 )
-    requires loans { SeesLoans D.loan }
+    requires desk { D.is_of desk.now pass.now }
     requires told { (D.origin desk.now).told ≡ W.told work.now }
-    requires of { IsOf D.loan (D.origin desk.now) seat.old.holding }
+    requires of { IsOf D.lent (D.origin desk.now) seat.old.holding }
     ensures lane { seat.new.lane ≡ seat.old.lane }
     ensures gave_back { seat.new.gave_back ≡ seat.old.gave_back }
     ensures empty { IsEmpty seat.old → IsEmpty seat.new }
     ensures some { IsEmpty seat.new → IsEmpty seat.old }
-    ensures passes { PassesFor (G.is_passed gate.now) D.loan seat.old.holding seat.old.passes
+    ensures passes { PassesFor (G.is_passed gate.now) D.lent seat.old.holding seat.old.passes
         seat.new.passes }
     ensures stays { (seen : List Event)
-        → IsSeatOf D.loan D.spent W.job (D.origin desk.now) (G.is_passed gate.now) seat.old seen
-        → IsSeatOf D.loan D.spent W.job (D.origin desk.now) (G.is_passed gate.now) seat.new seen }
+        → IsSeatOf D.lent D.spent W.job (D.origin desk.now) (G.is_passed gate.now) seat.old seen
+        → IsSeatOf D.lent D.spent W.job (D.origin desk.now) (G.is_passed gate.now) seat.new seen }
 {
     match seat.take() {
         Holding::Nothing => {}
         Holding::Loan(loan) => {
-            let holding = performed(desk, loan, &mut seat.passes, work, gate);
+            let holding = performed(desk, pass, loan, &mut seat.passes, work, gate);
             seat.hold(holding);
         }
         Holding::Performed(spent, effects) => seat.hold(Holding::Performed(spent, effects)),
@@ -142,32 +144,33 @@ fn perform<W: Work, D: Desk<W, Loan = Loan<W>>, G: Gate>(
 
 /// Passes the gate and performs the loan of each seat, in their order, up to the first that holds
 /// nothing: no seat behind it holds anything.
-pub(crate) fn perform_all<W: Work, D: Desk<W, Loan = Loan<W>>, G: Gate>(
+pub(crate) fn perform_all<W: Work, D: Desk<W>, G: Gate>(
     desk: &D,
-    seats: &mut [GroupSeat<Loan<W>, D::Spent>],
+    pass: &D::Pass,
+    seats: &mut [GroupSeat<D::Lent, D::Spent>],
     work: &W,
     gate: &G,
 )
-    requires loans { SeesLoans D.loan }
+    requires desk { D.is_of desk.now pass.now }
     requires told { (D.origin desk.now).told ≡ W.told work.now }
-    requires of { All (λ seat. IsOf D.loan (D.origin desk.now) seat.holding) seats.old }
+    requires of { All (λ seat. IsOf D.lent (D.origin desk.now) seat.holding) seats.old }
     requires kept { All HasKept seats.old }
     requires filled { AreFilledFrom 0 seats.old }
     ensures same { seat_lanes seats.new ≡ seat_lanes seats.old }
     ensures kept { All HasKept seats.new }
     ensures filled { AreFilledFrom 0 seats.new }
-    ensures passes { PassForEach (G.is_passed gate.now) D.loan seats.old seats.new }
+    ensures passes { PassForEach (G.is_passed gate.now) D.lent seats.old seats.new }
     ensures stays { (lanes : List ℕ) (seen : List Event)
-        → AreSeats D.loan D.spent W.job (D.origin desk.now) (G.is_passed gate.now) lanes
+        → AreSeats D.lent D.spent W.job (D.origin desk.now) (G.is_passed gate.now) lanes
         seats.old seen
-        → AreSeats D.loan D.spent W.job (D.origin desk.now) (G.is_passed gate.now) lanes
+        → AreSeats D.lent D.spent W.job (D.origin desk.now) (G.is_passed gate.now) lanes
         seats.new seen }
 {
     for at in 0..seats.len() {
         if seats[at].is_empty() {
             return;
         }
-        perform(desk, &mut seats[at], work, gate);
+        perform(desk, pass, &mut seats[at], work, gate);
     }
 }
 

@@ -7,12 +7,12 @@ ghost use Rattle.bank_law.specs.History.{holds, returns};
 ghost use Rattle.bank_lanes.specs.declared.turns.LaneEnd.TheVariants.{Finished, GaveBack, ManyReady};
 ghost use Rattle.bank_lanes.specs.declared.turns.Company.TheVariants.{Alone};
 ghost use Rattle.bank_lanes.specs.Groups.{AreSeats, EndsWell, HasManyAfter, IsFree, IsNewSeat, seat_lanes};
-ghost use Rattle.bank_lanes.specs.Passes.{AreItsOwn, CommitBehind, HoldsNothing, IsIdle, KeepsTo, SeesLoans, StaysBehind, StaysFree, WentOn, Widened};
+ghost use Rattle.bank_lanes.specs.Passes.{AreItsOwn, CommitBehind, HoldsNothing, IsIdle, KeepsTo, StaysBehind, StaysFree, WentOn, Widened};
 
 use crate::gate::Gate;
 use crate::group::{GroupSeat, leave_group};
 use crate::turns::{Company, LaneEnd, run_group};
-use bank_core::{Desk, Loan, Split, Work};
+use bank_core::{Desk, Split, Work};
 use side_by_side::for_each_mut;
 use sol_base::OutOfMemory;
 use std::alloc::{AllocFailed, Global};
@@ -46,23 +46,23 @@ fn first_seat<L, S>(
 }
 
 /// Draws further lanes for a pass, up to so many in all, each with a seat.
-fn widen<W: Work, D: Desk<W, Loan = Loan<W>>, G: Gate, R: Wait>(
+fn widen<W: Work, D: Desk<W>, G: Gate, R: Wait>(
     rt: &R,
     desk: &D,
     pass: &mut D::Pass,
-    seats: &mut Vec<GroupSeat<Loan<W>, D::Spent>>,
+    seats: &mut Vec<GroupSeat<D::Lent, D::Spent>>,
     width: u32,
     gate: &G,
 )
     requires desk { D.is_of desk.now pass.old }
     requires one { length seats.old.items ≡ 1 }
     requires room { width ≤ vec_capacity seats.old }
-    requires seats { AreSeats D.loan D.spent W.job (D.origin desk.now) (G.is_passed gate.now)
+    requires seats { AreSeats D.lent D.spent W.job (D.origin desk.now) (G.is_passed gate.now)
         (D.lanes_of pass.old) seats.old.items (D.view pass.old).seen }
     requires free { All IsFree seats.old.items }
     ensures desk { D.is_of desk.now pass.new }
     ensures some { 0 < length seats.new.items }
-    ensures seats { AreSeats D.loan D.spent W.job (D.origin desk.now) (G.is_passed gate.now)
+    ensures seats { AreSeats D.lent D.spent W.job (D.origin desk.now) (G.is_passed gate.now)
         (D.lanes_of pass.new) seats.new.items (D.view pass.new).seen }
     ensures free { All IsFree seats.new.items }
     ensures wider { Widened (G.is_passed gate.now) (D.lanes_of pass.old) (D.view pass.old)
@@ -83,20 +83,19 @@ fn widen<W: Work, D: Desk<W, Loan = Loan<W>>, G: Gate, R: Wait>(
 }
 
 /// Runs the group that has these seats.
-fn run_seats<W: Work, D: Desk<W, Loan = Loan<W>>, G: Gate, R: Wait>(
+fn run_seats<W: Work, D: Desk<W>, G: Gate, R: Wait>(
     rt: &R,
     desk: &D,
     pass: &mut D::Pass,
-    seats: &mut Vec<GroupSeat<Loan<W>, D::Spent>>,
+    seats: &mut Vec<GroupSeat<D::Lent, D::Spent>>,
     work: &W,
     company: Company,
     gate: &G,
 ) -> LaneEnd
-    requires loans { SeesLoans D.loan }
     requires told { (D.origin desk.now).told ≡ W.told work.now }
     requires some { 0 < length seats.old.items }
     requires desk { D.is_of desk.now pass.old }
-    requires seats { AreSeats D.loan D.spent W.job (D.origin desk.now) (G.is_passed gate.now)
+    requires seats { AreSeats D.lent D.spent W.job (D.origin desk.now) (G.is_passed gate.now)
         (D.lanes_of pass.old) seats.old.items (D.view pass.old).seen }
     requires free { All IsFree seats.old.items }
     ensures desk { D.is_of desk.now pass.new }
@@ -104,7 +103,7 @@ fn run_seats<W: Work, D: Desk<W, Loan = Loan<W>>, G: Gate, R: Wait>(
     ensures keeps { KeepsTo (G.is_passed gate.now) (seat_lanes seats.old.items)
         (D.lanes_of pass.old) (D.view pass.old) (D.lanes_of pass.new) (D.view pass.new) }
     ensures same { seat_lanes seats.new.items ≡ seat_lanes seats.old.items }
-    ensures seats { AreSeats D.loan D.spent W.job (D.origin desk.now) (G.is_passed gate.now)
+    ensures seats { AreSeats D.lent D.spent W.job (D.origin desk.now) (G.is_passed gate.now)
         (D.lanes_of pass.new) seats.new.items (D.view pass.new).seen }
     ensures end { EndsWell company W.job (D.origin desk.now) result seats.new.items
         (D.view pass.new) }
@@ -115,7 +114,7 @@ fn run_seats<W: Work, D: Desk<W, Loan = Loan<W>>, G: Gate, R: Wait>(
 /// Runs the lanes of a thread: its pass draws further ones, so many in all, each gets a seat, and the
 /// group runs until it ends. Where there is no memory for seats nothing is done. One that works alone
 /// draws none: its own lane performs one position after the other, as long as no more than one is ready.
-fn run_thread<W: Work, D: Desk<W, Loan = Loan<W>>, G: Gate, R: Wait>(
+fn run_thread<W: Work, D: Desk<W>, G: Gate, R: Wait>(
     rt: &R,
     desk: &D,
     pass: &mut D::Pass,
@@ -123,7 +122,6 @@ fn run_thread<W: Work, D: Desk<W, Loan = Loan<W>>, G: Gate, R: Wait>(
     company: Company,
     lanes: &Lanes<'_, G>,
 ) -> LaneEnd
-    requires loans { SeesLoans D.loan }
     requires told { (D.origin desk.now).told ≡ W.told work.now }
     requires desk { D.is_of desk.now pass.old }
     requires idle { IsIdle (D.view pass.old) }
@@ -213,14 +211,13 @@ fn join_idle<W: Work, D: Desk<W>, G: Gate>(desk: &D, pass: &mut D::Pass, other: 
 }
 
 /// Runs the threads of the passes, beside each other.
-fn run_each<W: Work + Sync, D: Desk<W, Loan = Loan<W>>, G: Gate, R: Threads + Wait + Sync>(
+fn run_each<W: Work + Sync, D: Desk<W>, G: Gate, R: Threads + Wait + Sync>(
     rt: &R,
     desk: &D,
     passes: &mut [D::Pass],
     work: &W,
     lanes: &Lanes<'_, G>,
 )
-    requires loans { SeesLoans D.loan }
     requires told { (D.origin desk.now).told ≡ W.told work.now }
     requires passes { All (λ p. D.is_of desk.now p × IsIdle (D.view p)
         × HoldsNothing (D.lanes_of p) (D.view p)
@@ -237,7 +234,7 @@ fn run_each<W: Work + Sync, D: Desk<W, Loan = Loan<W>>, G: Gate, R: Threads + Wa
         passes,
         others,
         &|_at: usize, pass: &mut D::Pass|
-            requires { SeesLoans D.loan × ((D.origin desk.now).told ≡ W.told work.now)
+            requires { ((D.origin desk.now).told ≡ W.told work.now)
                 × D.is_of desk.now pass.old × IsIdle (D.view pass.old)
                 × HoldsNothing (D.lanes_of pass.old) (D.view pass.old)
                 × CommitBehind (G.is_passed lanes.now.gate.now) (D.lanes_of pass.old)
@@ -254,7 +251,7 @@ fn run_each<W: Work + Sync, D: Desk<W, Loan = Loan<W>>, G: Gate, R: Threads + Wa
 
 /// Runs the lanes of the caller's pass in a thread of their own too, beside those of the others. The
 /// caller's thread starts all of them, and waits. Where there are no others it runs its lanes itself.
-fn run_all<W: Work + Sync, D: Desk<W, Loan = Loan<W>>, G: Gate, R: Threads + Wait + Sync>(
+fn run_all<W: Work + Sync, D: Desk<W>, G: Gate, R: Threads + Wait + Sync>(
     rt: &R,
     desk: &D,
     pass: &mut D::Pass,
@@ -262,7 +259,6 @@ fn run_all<W: Work + Sync, D: Desk<W, Loan = Loan<W>>, G: Gate, R: Threads + Wai
     work: &W,
     lanes: &Lanes<'_, G>,
 ) -> LaneEnd
-    requires loans { SeesLoans D.loan }
     requires told { (D.origin desk.now).told ≡ W.told work.now }
     requires desk { D.is_of desk.now pass.old }
     requires idle { IsIdle (D.view pass.old) }
@@ -285,7 +281,7 @@ fn run_all<W: Work + Sync, D: Desk<W, Loan = Loan<W>>, G: Gate, R: Threads + Wai
     let (end, ()) = join_mut(
         rt,
         &mut || -> LaneEnd
-            requires { SeesLoans D.loan × ((D.origin desk.now).told ≡ W.told work.now)
+            requires { ((D.origin desk.now).told ≡ W.told work.now)
                 × D.is_of desk.now pass.now × IsIdle (D.view pass.now) }
             ensures desk { D.is_of desk.entry.now pass.exit.now }
             ensures on { WentOn (D.view pass.entry.now) (D.view pass.exit.now) }
@@ -297,7 +293,7 @@ fn run_all<W: Work + Sync, D: Desk<W, Loan = Loan<W>>, G: Gate, R: Threads + Wai
             ensures once { result ≢ GaveBack → returns (D.view pass.exit.now).mine ≡ 0 }
         { run_thread(rt, desk, pass, work, Company::Others, lanes) },
         &mut ||
-            requires { SeesLoans D.loan × ((D.origin desk.now).told ≡ W.told work.now)
+            requires { ((D.origin desk.now).told ≡ W.told work.now)
                 × All (λ p. D.is_of desk.now p × IsIdle (D.view p)
                 × HoldsNothing (D.lanes_of p) (D.view p)
                 × CommitBehind (G.is_passed lanes.now.gate.now) (D.lanes_of p) (D.view p))
@@ -337,14 +333,13 @@ fn join_all<W: Work, D: Desk<W>, G: Gate>(
 
 /// Runs the lanes of a desk in so many threads, of which the caller's then finishes what is left, or
 /// gives back once and ends the run.
-fn run_many<W: Work + Sync, D: Desk<W, Loan = Loan<W>>, G: Gate, R: Threads + Wait + Sync>(
+fn run_many<W: Work + Sync, D: Desk<W>, G: Gate, R: Threads + Wait + Sync>(
     rt: &R,
     desk: &D,
     pass: &mut D::Pass,
     work: &W,
     lanes: &Lanes<'_, G>,
 ) -> Result<(), OutOfMemory>
-    requires loans { SeesLoans D.loan }
     requires told { (D.origin desk.now).told ≡ W.told work.now }
     requires desk { D.is_of desk.now pass.old }
     requires idle { IsIdle (D.view pass.old) }
@@ -376,14 +371,13 @@ fn run_many<W: Work + Sync, D: Desk<W, Loan = Loan<W>>, G: Gate, R: Threads + Wa
 /// and the passes are joined, none of whose lanes holds anything. A group that finds no memory gives
 /// its loan back and ends. The caller's group then finishes what is left, or gives back once and ends
 /// the run. A lane commits nothing but what it has passed the gate for.
-pub fn run_groups<W: Work + Sync, D: Desk<W, Loan = Loan<W>>, G: Gate, R: Threads + Wait + Sync>(
+pub fn run_groups<W: Work + Sync, D: Desk<W>, G: Gate, R: Threads + Wait + Sync>(
     rt: &R,
     desk: &D,
     pass: &mut D::Pass,
     work: &W,
     lanes: Lanes<'_, G>,
 ) -> Result<(), OutOfMemory>
-    requires loans { SeesLoans D.loan }
     requires told { (D.origin desk.now).told ≡ W.told work.now }
     requires desk { D.is_of desk.now pass.old }
     requires idle { IsIdle (D.view pass.old) }
@@ -403,7 +397,7 @@ pub fn run_groups<W: Work + Sync, D: Desk<W, Loan = Loan<W>>, G: Gate, R: Thread
 }
 
 /// Runs a desk's lanes without barriers, one lane to a thread, until all positions are done.
-pub fn run_lanes<W: Work + Sync, D: Desk<W, Loan = Loan<W>>, G: Gate, R: Threads + Wait + Sync>(
+pub fn run_lanes<W: Work + Sync, D: Desk<W>, G: Gate, R: Threads + Wait + Sync>(
     rt: &R,
     alloc: Global,
     desk: &D,
@@ -411,7 +405,6 @@ pub fn run_lanes<W: Work + Sync, D: Desk<W, Loan = Loan<W>>, G: Gate, R: Threads
     work: &W,
     gate: &G,
 ) -> Result<(), OutOfMemory>
-    requires loans { SeesLoans D.loan }
     requires told { (D.origin desk.now).told ≡ W.told work.now }
     requires desk { D.is_of desk.now pass.old }
     requires idle { IsIdle (D.view pass.old) }

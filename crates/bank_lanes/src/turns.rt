@@ -2,14 +2,14 @@
 ghost use Rattle.std.specs.Prelude.{◌≡◌, ◌≢◌, ◌<◌, ◌≤◌, true, false, length, All};
 ghost use Rattle.std.specs.List.{AllWithin};
 ghost use Rattle.bank_core.specs.Lanes.{is_one_of};
-ghost use Rattle.bank_lanes.specs.Passes.{AreItsOwn, KeepsTo, SeesLoans};
+ghost use Rattle.bank_lanes.specs.Passes.{AreItsOwn, KeepsTo};
 ghost use Rattle.bank_lanes.specs.declared.turns.Found.TheVariants.{Loan as FoundLoan, Plenty as FoundPlenty};
 ghost use Rattle.bank_lanes.specs.declared.turns.Company.TheVariants.{Alone, Others};
 ghost use Rattle.bank_lanes.specs.Groups.{AreFilledFrom, AreSeats, EndsWell, HasFound, HasKept, HasManyAfter, IsEmpty, IsFree, IsLent, IsSeatOf, MatchFound, NoneNowAfter, StepsOn, seat_lanes};
 
 use crate::gate::Gate;
 use crate::group::{GroupSeat, Holding, perform_all};
-use bank_core::{Desk, Loan, Take, Work};
+use bank_core::{Desk, Lend, Work};
 use std::sync::Wait;
 use std::thread;
 
@@ -45,23 +45,23 @@ pub(crate) enum Company {
 }
 
 /// Takes the effects of a seat's loan, or puts the loan back where it is not performed.
-fn settle<W: Work, D: Desk<W, Loan = Loan<W>>, G: Gate>(
+fn settle<W: Work, D: Desk<W>, G: Gate>(
     desk: &D,
     turn: &mut D::Turn,
-    seat: &mut GroupSeat<Loan<W>, D::Spent>,
+    seat: &mut GroupSeat<D::Lent, D::Spent>,
     gate: &G,
 )
     requires desk { D.is_turn_of desk.now turn.old }
     requires own { AreItsOwn (D.turn_view turn.old) }
     requires lane { is_one_of (D.turn_lanes turn.old) seat.old.lane ≡ true }
-    requires seat { IsSeatOf D.loan D.spent W.job (D.origin desk.now) (G.is_passed gate.now)
+    requires seat { IsSeatOf D.lent D.spent W.job (D.origin desk.now) (G.is_passed gate.now)
         seat.old (D.turn_view turn.old).seen }
     ensures desk { D.is_turn_of desk.now turn.new }
     ensures lanes { D.turn_lanes turn.new ≡ D.turn_lanes turn.old }
     ensures lane { seat.new.lane ≡ seat.old.lane }
     ensures step { StepsOn (G.is_passed gate.now) seat.old.lane (D.turn_view turn.old)
         (D.turn_view turn.new) }
-    ensures seat { IsSeatOf D.loan D.spent W.job (D.origin desk.now) (G.is_passed gate.now) seat.new
+    ensures seat { IsSeatOf D.lent D.spent W.job (D.origin desk.now) (G.is_passed gate.now) seat.new
         (D.turn_view turn.new).seen }
     ensures empty { IsEmpty seat.new }
 {
@@ -79,15 +79,15 @@ fn settle<W: Work, D: Desk<W, Loan = Loan<W>>, G: Gate>(
 
 /// Takes the effects of each seat's loan, or puts the loan back, in the order of the seats up to the
 /// first that holds nothing: no seat behind it holds anything. It says whether none gave back.
-fn settle_all<W: Work, D: Desk<W, Loan = Loan<W>>, G: Gate>(
+fn settle_all<W: Work, D: Desk<W>, G: Gate>(
     desk: &D,
     turn: &mut D::Turn,
-    seats: &mut [GroupSeat<Loan<W>, D::Spent>],
+    seats: &mut [GroupSeat<D::Lent, D::Spent>],
     gate: &G,
 ) -> bool
     requires desk { D.is_turn_of desk.now turn.old }
     requires own { AreItsOwn (D.turn_view turn.old) }
-    requires seats { AreSeats D.loan D.spent W.job (D.origin desk.now) (G.is_passed gate.now)
+    requires seats { AreSeats D.lent D.spent W.job (D.origin desk.now) (G.is_passed gate.now)
         (D.turn_lanes turn.old) seats.old (D.turn_view turn.old).seen }
     requires kept { All HasKept seats.old }
     requires filled { AreFilledFrom 0 seats.old }
@@ -96,7 +96,7 @@ fn settle_all<W: Work, D: Desk<W, Loan = Loan<W>>, G: Gate>(
     ensures keeps { KeepsTo (G.is_passed gate.now) (seat_lanes seats.old) (D.turn_lanes turn.old)
         (D.turn_view turn.old) (D.turn_lanes turn.new) (D.turn_view turn.new) }
     ensures same { seat_lanes seats.new ≡ seat_lanes seats.old }
-    ensures seats { AreSeats D.loan D.spent W.job (D.origin desk.now) (G.is_passed gate.now)
+    ensures seats { AreSeats D.lent D.spent W.job (D.origin desk.now) (G.is_passed gate.now)
         (D.turn_lanes turn.new) seats.new (D.turn_view turn.new).seen }
     ensures empty { All IsEmpty seats.new }
     ensures kept { result ≡ true → All HasKept seats.new }
@@ -115,17 +115,16 @@ fn settle_all<W: Work, D: Desk<W, Loan = Loan<W>>, G: Gate>(
 }
 
 /// Lends the least ready position to a seat that holds nothing.
-fn lend_to<W: Work, D: Desk<W, Loan = Loan<W>>, G: Gate>(
+fn lend_to<W: Work, D: Desk<W>, G: Gate>(
     desk: &D,
     turn: &mut D::Turn,
-    seat: &mut GroupSeat<Loan<W>, D::Spent>,
+    seat: &mut GroupSeat<D::Lent, D::Spent>,
     gate: &G,
 ) -> Found
-    requires loans { SeesLoans D.loan }
     requires desk { D.is_turn_of desk.now turn.old }
     requires own { AreItsOwn (D.turn_view turn.old) }
     requires lane { is_one_of (D.turn_lanes turn.old) seat.old.lane ≡ true }
-    requires seat { IsSeatOf D.loan D.spent W.job (D.origin desk.now) (G.is_passed gate.now)
+    requires seat { IsSeatOf D.lent D.spent W.job (D.origin desk.now) (G.is_passed gate.now)
         seat.old (D.turn_view turn.old).seen }
     requires free { IsFree seat.old }
     ensures desk { D.is_turn_of desk.now turn.new }
@@ -133,40 +132,39 @@ fn lend_to<W: Work, D: Desk<W, Loan = Loan<W>>, G: Gate>(
     ensures lane { seat.new.lane ≡ seat.old.lane }
     ensures step { StepsOn (G.is_passed gate.now) seat.old.lane (D.turn_view turn.old)
         (D.turn_view turn.new) }
-    ensures seat { IsSeatOf D.loan D.spent W.job (D.origin desk.now) (G.is_passed gate.now) seat.new
+    ensures seat { IsSeatOf D.lent D.spent W.job (D.origin desk.now) (G.is_passed gate.now) seat.new
         (D.turn_view turn.new).seen }
     ensures kept { HasKept seat.new }
     ensures lent { result ≡ FoundLoan → IsLent seat.new }
     ensures none { result ≢ FoundLoan → IsEmpty seat.new }
-    ensures found { HasFound D.loan D.spent W.job (D.origin desk.now) result seat.new
+    ensures found { HasFound D.lent D.spent W.job (D.origin desk.now) result seat.new
         (D.turn_view turn.old) (D.turn_view turn.new) }
 {
     // The contract alone asks for the gate: nothing is committed.
     let _gate = gate;
     match desk.lend(turn, seat.lane) {
-        Take::Loan(loan) => {
+        Lend::Lent(loan) => {
             seat.hold(Holding::Loan(loan));
             Found::Loan
         }
-        Take::NotNow { held: _ } => Found::Nothing,
-        Take::Finished => Found::End(LaneEnd::Finished),
-        Take::OutOfMemory => Found::End(LaneEnd::NoShare),
+        Lend::NotNow { held: _ } => Found::Nothing,
+        Lend::Finished => Found::End(LaneEnd::Finished),
+        Lend::OutOfMemory => Found::End(LaneEnd::NoShare),
     }
 }
 
 /// Lends to the seats after the first, of so many, until nothing is lent.
-fn lend_rest<W: Work, D: Desk<W, Loan = Loan<W>>, G: Gate>(
+fn lend_rest<W: Work, D: Desk<W>, G: Gate>(
     desk: &D,
     turn: &mut D::Turn,
-    seats: &mut [GroupSeat<Loan<W>, D::Spent>],
+    seats: &mut [GroupSeat<D::Lent, D::Spent>],
     most: usize,
     gate: &G,
 )
-    requires loans { SeesLoans D.loan }
     requires most { most ≤ length seats.old }
     requires desk { D.is_turn_of desk.now turn.old }
     requires own { AreItsOwn (D.turn_view turn.old) }
-    requires seats { AreSeats D.loan D.spent W.job (D.origin desk.now) (G.is_passed gate.now)
+    requires seats { AreSeats D.lent D.spent W.job (D.origin desk.now) (G.is_passed gate.now)
         (D.turn_lanes turn.old) seats.old (D.turn_view turn.old).seen }
     requires kept { All HasKept seats.old }
     requires first { AllWithin IsLent seats.old 0 1 }
@@ -176,7 +174,7 @@ fn lend_rest<W: Work, D: Desk<W, Loan = Loan<W>>, G: Gate>(
     ensures keeps { KeepsTo (G.is_passed gate.now) (seat_lanes seats.old) (D.turn_lanes turn.old)
         (D.turn_view turn.old) (D.turn_lanes turn.new) (D.turn_view turn.new) }
     ensures same { seat_lanes seats.new ≡ seat_lanes seats.old }
-    ensures seats { AreSeats D.loan D.spent W.job (D.origin desk.now) (G.is_passed gate.now)
+    ensures seats { AreSeats D.lent D.spent W.job (D.origin desk.now) (G.is_passed gate.now)
         (D.turn_lanes turn.new) seats.new (D.turn_view turn.new).seen }
     ensures kept { All HasKept seats.new }
     ensures filled { AreFilledFrom 0 seats.new }
@@ -241,17 +239,16 @@ fn holds_off(company: Company, settles: bool, units: u64, ready: u32, groups: us
 }
 
 /// Lends the group its share, and tells what the first seat found.
-fn lend_share<W: Work, D: Desk<W, Loan = Loan<W>>, G: Gate>(
+fn lend_share<W: Work, D: Desk<W>, G: Gate>(
     desk: &D,
     turn: &mut D::Turn,
-    seats: &mut [GroupSeat<Loan<W>, D::Spent>],
+    seats: &mut [GroupSeat<D::Lent, D::Spent>],
     gate: &G,
 ) -> Found
-    requires loans { SeesLoans D.loan }
     requires some { 0 < length seats.old }
     requires desk { D.is_turn_of desk.now turn.old }
     requires own { AreItsOwn (D.turn_view turn.old) }
-    requires seats { AreSeats D.loan D.spent W.job (D.origin desk.now) (G.is_passed gate.now)
+    requires seats { AreSeats D.lent D.spent W.job (D.origin desk.now) (G.is_passed gate.now)
         (D.turn_lanes turn.old) seats.old (D.turn_view turn.old).seen }
     requires free { All IsFree seats.old }
     ensures desk { D.is_turn_of desk.now turn.new }
@@ -259,7 +256,7 @@ fn lend_share<W: Work, D: Desk<W, Loan = Loan<W>>, G: Gate>(
     ensures keeps { KeepsTo (G.is_passed gate.now) (seat_lanes seats.old) (D.turn_lanes turn.old)
         (D.turn_view turn.old) (D.turn_lanes turn.new) (D.turn_view turn.new) }
     ensures same { seat_lanes seats.new ≡ seat_lanes seats.old }
-    ensures seats { AreSeats D.loan D.spent W.job (D.origin desk.now) (G.is_passed gate.now)
+    ensures seats { AreSeats D.lent D.spent W.job (D.origin desk.now) (G.is_passed gate.now)
         (D.turn_lanes turn.new) seats.new (D.turn_view turn.new).seen }
     ensures filled { AreFilledFrom 0 seats.new }
     ensures found { MatchFound result (All HasKept seats.new) ⊥
@@ -279,19 +276,18 @@ fn lend_share<W: Work, D: Desk<W, Loan = Loan<W>>, G: Gate>(
 /// and takes its share. Where a seat gave back it takes nothing, and where it gives way nothing yet:
 /// the next turn, which has nothing to settle, takes. One that works alone leaves all to others once
 /// more than one position is ready.
-fn under_turn<W: Work, D: Desk<W, Loan = Loan<W>>, G: Gate>(
+fn under_turn<W: Work, D: Desk<W>, G: Gate>(
     desk: &D,
     turn: &mut D::Turn,
-    seats: &mut [GroupSeat<Loan<W>, D::Spent>],
+    seats: &mut [GroupSeat<D::Lent, D::Spent>],
     units: u64,
     company: Company,
     gate: &G,
 ) -> Found
-    requires loans { SeesLoans D.loan }
     requires some { 0 < length seats.old }
     requires desk { D.is_turn_of desk.now turn.old }
     requires own { AreItsOwn (D.turn_view turn.old) }
-    requires seats { AreSeats D.loan D.spent W.job (D.origin desk.now) (G.is_passed gate.now)
+    requires seats { AreSeats D.lent D.spent W.job (D.origin desk.now) (G.is_passed gate.now)
         (D.turn_lanes turn.old) seats.old (D.turn_view turn.old).seen }
     requires kept { All HasKept seats.old }
     requires filled { AreFilledFrom 0 seats.old }
@@ -300,7 +296,7 @@ fn under_turn<W: Work, D: Desk<W, Loan = Loan<W>>, G: Gate>(
     ensures keeps { KeepsTo (G.is_passed gate.now) (seat_lanes seats.old) (D.turn_lanes turn.old)
         (D.turn_view turn.old) (D.turn_lanes turn.new) (D.turn_view turn.new) }
     ensures same { seat_lanes seats.new ≡ seat_lanes seats.old }
-    ensures seats { AreSeats D.loan D.spent W.job (D.origin desk.now) (G.is_passed gate.now)
+    ensures seats { AreSeats D.lent D.spent W.job (D.origin desk.now) (G.is_passed gate.now)
         (D.turn_lanes turn.new) seats.new (D.turn_view turn.new).seen }
     ensures filled { AreFilledFrom 0 seats.new }
     ensures way { company ≡ Others → All IsEmpty seats.old → result ≢ FoundPlenty }
@@ -322,18 +318,17 @@ fn under_turn<W: Work, D: Desk<W, Loan = Loan<W>>, G: Gate>(
 }
 
 /// A turn of a group, which works alone or beside others.
-fn take_turn<W: Work, D: Desk<W, Loan = Loan<W>>, G: Gate, R: Wait>(
+fn take_turn<W: Work, D: Desk<W>, G: Gate, R: Wait>(
     rt: &R,
     desk: &D,
     pass: &mut D::Pass,
-    seats: &mut [GroupSeat<Loan<W>, D::Spent>],
+    seats: &mut [GroupSeat<D::Lent, D::Spent>],
     company: Company,
     gate: &G,
 ) -> Found
-    requires loans { SeesLoans D.loan }
     requires some { 0 < length seats.old }
     requires desk { D.is_of desk.now pass.old }
-    requires seats { AreSeats D.loan D.spent W.job (D.origin desk.now) (G.is_passed gate.now)
+    requires seats { AreSeats D.lent D.spent W.job (D.origin desk.now) (G.is_passed gate.now)
         (D.lanes_of pass.old) seats.old (D.view pass.old).seen }
     requires kept { All HasKept seats.old }
     requires filled { AreFilledFrom 0 seats.old }
@@ -342,7 +337,7 @@ fn take_turn<W: Work, D: Desk<W, Loan = Loan<W>>, G: Gate, R: Wait>(
     ensures keeps { KeepsTo (G.is_passed gate.now) (seat_lanes seats.old) (D.lanes_of pass.old)
         (D.view pass.old) (D.lanes_of pass.new) (D.view pass.new) }
     ensures same { seat_lanes seats.new ≡ seat_lanes seats.old }
-    ensures seats { AreSeats D.loan D.spent W.job (D.origin desk.now) (G.is_passed gate.now)
+    ensures seats { AreSeats D.lent D.spent W.job (D.origin desk.now) (G.is_passed gate.now)
         (D.lanes_of pass.new) seats.new (D.view pass.new).seen }
     ensures filled { AreFilledFrom 0 seats.new }
     ensures way { company ≡ Others → All IsEmpty seats.old → result ≢ FoundPlenty }
@@ -362,20 +357,19 @@ fn take_turn<W: Work, D: Desk<W, Loan = Loan<W>>, G: Gate, R: Wait>(
 /// Performs what is lent, passing the gate before each, and settles it in the next turn, until all
 /// positions are done. Where nothing is ready it waits, and tries again; where it gives way it lets
 /// other threads run in between. One that works alone ends once more than one position is ready.
-pub(crate) fn run_group<W: Work, D: Desk<W, Loan = Loan<W>>, G: Gate, R: Wait>(
+pub(crate) fn run_group<W: Work, D: Desk<W>, G: Gate, R: Wait>(
     rt: &R,
     desk: &D,
     pass: &mut D::Pass,
-    seats: &mut [GroupSeat<Loan<W>, D::Spent>],
+    seats: &mut [GroupSeat<D::Lent, D::Spent>],
     work: &W,
     company: Company,
     gate: &G,
 ) -> LaneEnd
-    requires loans { SeesLoans D.loan }
     requires told { (D.origin desk.now).told ≡ W.told work.now }
     requires some { 0 < length seats.old }
     requires desk { D.is_of desk.now pass.old }
-    requires seats { AreSeats D.loan D.spent W.job (D.origin desk.now) (G.is_passed gate.now)
+    requires seats { AreSeats D.lent D.spent W.job (D.origin desk.now) (G.is_passed gate.now)
         (D.lanes_of pass.old) seats.old (D.view pass.old).seen }
     requires free { All IsFree seats.old }
     ensures desk { D.is_of desk.now pass.new }
@@ -383,13 +377,13 @@ pub(crate) fn run_group<W: Work, D: Desk<W, Loan = Loan<W>>, G: Gate, R: Wait>(
     ensures keeps { KeepsTo (G.is_passed gate.now) (seat_lanes seats.old) (D.lanes_of pass.old)
         (D.view pass.old) (D.lanes_of pass.new) (D.view pass.new) }
     ensures same { seat_lanes seats.new ≡ seat_lanes seats.old }
-    ensures seats { AreSeats D.loan D.spent W.job (D.origin desk.now) (G.is_passed gate.now)
+    ensures seats { AreSeats D.lent D.spent W.job (D.origin desk.now) (G.is_passed gate.now)
         (D.lanes_of pass.new) seats.new (D.view pass.new).seen }
     ensures end { EndsWell company W.job (D.origin desk.now) result seats.new (D.view pass.new) }
 {
     'turns: for _ in rt.forever() {
         match take_turn(rt, desk, pass, seats, company, gate) {
-            Found::Loan => perform_all(desk, seats, work, gate),
+            Found::Loan => perform_all(desk, pass, seats, work, gate),
             Found::Plenty => match company {
                 Company::Alone => return LaneEnd::ManyReady,
                 Company::Others => thread::yield_now(),

@@ -1,5 +1,5 @@
 -- What callers state of a desk, its passes and its readers.
-use Rattle.std.specs.Prelude.{◌≡◌, ℕ, List, [], Some, map}
+use Rattle.std.specs.Prelude.{◌≡◌, ℕ, List, [], None, Some, map}
 use Rattle.sol_base.specs.Accounts.{accounts_of}
 use Rattle.account_store.specs.State.{at}
 use Rattle.bank_law.specs.Job.{Job, keys}
@@ -10,6 +10,7 @@ use Rattle.bank_core.specs.declared.origin.Origin.{Origin}
 use Rattle.bank_core.specs.declared.loan.Loan.{Loan}
 use Rattle.bank_core.specs.declared.loan.Spent.{Spent}
 use Rattle.bank_core.specs.Desks.{LoanView}
+use Rattle.bank_shared.specs.declared.desk.Lent.{Lent}
 use Rattle.bank_shared.specs.declared.desk.Pass.{Pass}
 use Rattle.bank_shared.specs.declared.desk.Turn.{Turn}
 use Rattle.bank_shared.specs.declared.desk.SharedDesk.{SharedDesk}
@@ -72,6 +73,12 @@ module _ {W T : Type 0} {G : _} where
   abbrev pub turn_lanes : Turn W T G → List ℕ
   turn_lanes turn = turn.seat.me.0.lanes
 
+  -- the turn of this pass of the desk, which has this lane, is out
+  abbrev pub IsAway : SharedDesk W T G → Pass W T G → ℕ → Type 0
+  IsAway desk pass lane =
+      (pass.seat.table_id ≡ desk.table.shared.table_id) × (pass.seat.me.0.origin ≡ None)
+      × (pass.lane ≡ lane)
+
   -- the reader is of this desk
   abbrev pub IsReaderOf : SharedDesk W T G → Reader W T G → Type 0
   IsReaderOf desk reader =
@@ -91,6 +98,10 @@ module _ {W T : Type 0} {G : _} where
         origin = loan.origin.value;
         values = accounts_of loan.values.items;
       }
+
+  -- what a turn lent
+  abbrev pub lent_view : Lent W T G → LoanView T
+  lent_view lent = loan_view lent.loan
 
   -- and one whose values are let go, which are those of the serial run
   abbrev pub spent_view : (T → Job) → Spent W T G → LoanView T

@@ -9,7 +9,7 @@ use crate::rule::TurnRule;
 use crate::view::View;
 use crate::waiting::Waiting;
 use atomic_table::{Seat, Table};
-use bank_core::Work;
+use bank_core::{Loan, Work};
 use proof_note::Note;
 use std::alloc::Global;
 
@@ -38,6 +38,11 @@ pub struct Turn<W: Work> {
     ghost lane_is: { is_one_of seat.me.0.lanes lane ≡ true },
     ghost below: { (l : ℕ) → is_one_of seat.me.0.lanes l ≡ true → l < kept.core.value.lanes },
     ghost events: { IsOnTurn seat.me.0 kept.core.value.journal.items kept.drawn } by { IsOnTurn-prop _ _ _ },
+}
+
+/// A loan whose values only a desk reaches, when it performs them: what a turn lends, and takes back.
+pub struct Lent<W: Work> {
+    pub(crate) loan: Loan<W>,
 }
 
 /// A desk: a core that lanes share, each with a pass. One pass at a time has the turn, for a grant,

@@ -15,7 +15,7 @@ mod turn;
 mod view;
 mod waiting;
 
-pub use desk::{Pass, Reader, SharedDesk, Turn};
+pub use desk::{Lent, Pass, Reader, SharedDesk, Turn};
 pub use kept::{DeskOrigin, Kept};
 pub use rule::{Blanks, Folds, Looks, Parts, Releases, Takes, TurnRule};
 pub use view::{Part, View};

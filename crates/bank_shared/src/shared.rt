@@ -1,11 +1,10 @@
 //! The shared desk as a desk.
-use crate::desk::{Pass, SharedDesk, Turn};
-use crate::events::let_go;
-use bank_core::{Desk, Effects, Loan, Spent, Split, Take, Work};
+use crate::desk::{Lent, Pass, SharedDesk, Turn};
+use bank_core::{Desk, Effects, Lend, Loan, Spent, Split, Take, Work};
 use std::sync::Wait;
 
 impl<W: Work> Desk<W> for SharedDesk<W> {
-    ghost use Rattle.bank_shared.specs.Face.{desk_origin, desk_lanes, IsPassOf, view_of, pass_lanes, IsTurnOf, turn_view, turn_lanes, loan_view, spent_view};
+    ghost use Rattle.bank_shared.specs.Face.{desk_origin, desk_lanes, IsPassOf, view_of, pass_lanes, IsTurnOf, turn_view, turn_lanes, IsAway, loan_view, lent_view, spent_view};
 
     type Pass = Pass<W>;
 
@@ -23,6 +22,10 @@ impl<W: Work> Desk<W> for SharedDesk<W> {
 
     ghost loan = { loan_view };
 
+    type Lent = Lent<W>;
+
+    ghost lent = { lent_view };
+
     type Spent = Spent<W>;
 
     ghost spent = { λ spent. spent_view W.job spent };
@@ -34,6 +37,8 @@ impl<W: Work> Desk<W> for SharedDesk<W> {
     ghost turn_view = { turn_view };
 
     ghost turn_lanes = { turn_lanes };
+
+    ghost is_away = { IsAway };
 
     fn take<R: Wait>(&self, rt: &R, pass: &mut Pass<W>) -> Take<W> {
         self.lend(rt, pass)
@@ -63,15 +68,24 @@ impl<W: Work> Desk<W> for SharedDesk<W> {
         self.lane_of(pass)
     }
 
-    fn spend(&self, loan: Loan<W>) -> Spent<W> {
-        let_go(loan)
+    fn position(&self, lent: &Lent<W>) -> u32 {
+        lent.loan.position()
+    }
+
+    fn perform(
+        &self,
+        _pass: &Pass<W>,
+        lent: Lent<W>,
+        work: &W,
+    ) -> Result<(Spent<W>, Effects), Lent<W>> {
+        lent.perform(work)
     }
 
     fn begin<R: Wait>(&self, rt: &R, pass: &mut Pass<W>) -> Turn<W> {
         self.begin_turn(rt, pass)
     }
 
-    fn lend(&self, turn: &mut Turn<W>, lane: u32) -> Take<W> {
+    fn lend(&self, turn: &mut Turn<W>, lane: u32) -> Lend<Lent<W>> {
         self.lend_under(turn, lane)
     }
 
@@ -79,8 +93,8 @@ impl<W: Work> Desk<W> for SharedDesk<W> {
         self.take_under(turn, spent, effects)
     }
 
-    fn put_back(&self, turn: &mut Turn<W>, loan: Loan<W>) {
-        self.return_under(turn, loan)
+    fn put_back(&self, turn: &mut Turn<W>, lent: Lent<W>) {
+        self.return_under(turn, lent)
     }
 
     fn ready_count(&self, turn: &Turn<W>) -> u32 {

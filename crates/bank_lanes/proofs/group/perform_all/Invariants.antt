@@ -8,10 +8,10 @@ abbrev pub invariant-loop-at : goal.invariant-loop-at
 invariant-loop-at g l = record {
   same : seat_lanes l.seats ≡ seat_lanes l.initial.seats;
   kept : All HasKept l.seats;
-  of : AllWithin (λ seat. IsOf g.D.Desk.loan (g.D.Desk.origin l.desk) seat.holding) l.seats l.at (length l.seats);
-  stays : (lanes : List ℕ) (seen : List Event) → AreSeats g.D.Desk.loan g.D.Desk.spent g.W.Work.job (g.D.Desk.origin l.desk) (g.G.Gate.is_passed l.gate) lanes l.initial.seats seen
-      → AreSeats g.D.Desk.loan g.D.Desk.spent g.W.Work.job (g.D.Desk.origin l.desk) (g.G.Gate.is_passed l.gate) lanes l.seats seen;
+  of : AllWithin (λ seat. IsOf g.D.Desk.lent (g.D.Desk.origin l.desk) seat.holding) l.seats l.at (length l.seats);
+  stays : (lanes : List ℕ) (seen : List Event) → AreSeats g.D.Desk.lent g.D.Desk.spent g.W.Work.job (g.D.Desk.origin l.desk) (g.G.Gate.is_passed l.gate) lanes l.initial.seats seen
+      → AreSeats g.D.Desk.lent g.D.Desk.spent g.W.Work.job (g.D.Desk.origin l.desk) (g.G.Gate.is_passed l.gate) lanes l.seats seen;
   filled : AreFilledFrom 0 l.seats;
   rest : (k : ℕ) (d : _) → l.at ≤ k → get_or l.seats k d ≡ get_or l.initial.seats k d;
-  passes : (k : ℕ) (d : _) → k < l.at → PassesFor (g.G.Gate.is_passed l.gate) g.D.Desk.loan (get_or l.initial.seats k d).holding (get_or l.initial.seats k d).passes (get_or l.seats k d).passes;
+  passes : (k : ℕ) (d : _) → k < l.at → PassesFor (g.G.Gate.is_passed l.gate) g.D.Desk.lent (get_or l.initial.seats k d).holding (get_or l.initial.seats k d).passes (get_or l.seats k d).passes;
 }

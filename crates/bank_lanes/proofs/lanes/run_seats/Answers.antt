@@ -15,7 +15,7 @@ pub returns-clause-seats : goal.returns-clause-seats
 returns-clause-seats g c =
     let new = c.run_group.new.seats in
     let full : length new ≡ c.args.seats.now.len = omega (arith, c.run_group.auto.seats, c.as_mut_slice.ensures.len) in
-    subst (λ ss. AreSeats g.D.Desk.loan g.D.Desk.spent g.W.Work.job (g.D.Desk.origin c.args.desk.now)
+    subst (λ ss. AreSeats g.D.Desk.lent g.D.Desk.spent g.W.Work.job (g.D.Desk.origin c.args.desk.now)
     (g.G.Gate.is_passed c.args.gate.now) (g.D.Desk.lanes_of c.run_group.new.pass) ss
     (g.D.Desk.view c.run_group.new.pass).seen)
     (sym (take_at new (drop (length new) c.args.seats.now.items) c.args.seats.now.len full)) c.run_group.ensures.seats

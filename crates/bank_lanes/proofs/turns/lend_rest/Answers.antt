@@ -8,7 +8,7 @@ use Rattle.bank_lanes.proofs.turns.lend_rest.Goals as goal
 pub lend_to-requires-clause-lane : goal.lend_to-requires-clause-lane
 lend_to-requires-clause-lane g c = λ κs live.
     let within : c.loop-at.at < length c.loop-at.seats = omega arith in
-    lane_within g.D.Desk.loan g.D.Desk.spent g.W.Work.job (g.D.Desk.origin c.args.desk.now)
+    lane_within g.D.Desk.lent g.D.Desk.spent g.W.Work.job (g.D.Desk.origin c.args.desk.now)
     (g.G.Gate.is_passed c.args.gate.now) _ c.loop-at.seats _ c.loop-at.at c.index-seats-at.result within
     c.loop-at.invariant.seats
 
@@ -16,7 +16,7 @@ pub returns-then-ne-clause-keeps : goal.returns-then-ne-clause-keeps
 returns-then-ne-clause-keeps g c =
     let i = c.loop-at.invariant in
     let within : c.loop-at.at < length c.loop-at.seats = omega arith in
-    (advance g.D.Desk.loan g.D.Desk.spent g.W.Work.job (g.D.Desk.origin c.args.desk.now)
+    (advance g.D.Desk.lent g.D.Desk.spent g.W.Work.job (g.D.Desk.origin c.args.desk.now)
     (g.G.Gate.is_passed c.args.gate.now) (seat_lanes c.args.seats.now) _
     (g.D.Desk.turn_lanes c.loop-at.turn) (g.D.Desk.turn_lanes c.lend_to.new.turn) _
     (g.D.Desk.turn_view c.loop-at.turn) (g.D.Desk.turn_view c.lend_to.new.turn)
@@ -27,7 +27,7 @@ pub returns-then-ne-clause-same : goal.returns-then-ne-clause-same
 returns-then-ne-clause-same g c =
     let i = c.loop-at.invariant in
     let within : c.loop-at.at < length c.loop-at.seats = omega arith in
-    (advance g.D.Desk.loan g.D.Desk.spent g.W.Work.job (g.D.Desk.origin c.args.desk.now)
+    (advance g.D.Desk.lent g.D.Desk.spent g.W.Work.job (g.D.Desk.origin c.args.desk.now)
     (g.G.Gate.is_passed c.args.gate.now) (seat_lanes c.args.seats.now) _
     (g.D.Desk.turn_lanes c.loop-at.turn) (g.D.Desk.turn_lanes c.lend_to.new.turn) _
     (g.D.Desk.turn_view c.loop-at.turn) (g.D.Desk.turn_view c.lend_to.new.turn)
@@ -38,7 +38,7 @@ pub returns-then-ne-clause-seats : goal.returns-then-ne-clause-seats
 returns-then-ne-clause-seats g c =
     let i = c.loop-at.invariant in
     let within : c.loop-at.at < length c.loop-at.seats = omega arith in
-    (advance g.D.Desk.loan g.D.Desk.spent g.W.Work.job (g.D.Desk.origin c.args.desk.now)
+    (advance g.D.Desk.lent g.D.Desk.spent g.W.Work.job (g.D.Desk.origin c.args.desk.now)
     (g.G.Gate.is_passed c.args.gate.now) (seat_lanes c.args.seats.now) _
     (g.D.Desk.turn_lanes c.loop-at.turn) (g.D.Desk.turn_lanes c.lend_to.new.turn) _
     (g.D.Desk.turn_view c.loop-at.turn) (g.D.Desk.turn_view c.lend_to.new.turn)
@@ -52,7 +52,7 @@ pub loop-at-preserved : goal.loop-at-preserved
 loop-at-preserved g c =
     let i = c.loop-at.invariant in
     let within : c.loop-at.at < length c.loop-at.seats = omega arith in
-    let next = advance g.D.Desk.loan g.D.Desk.spent g.W.Work.job (g.D.Desk.origin c.args.desk.now)
+    let next = advance g.D.Desk.lent g.D.Desk.spent g.W.Work.job (g.D.Desk.origin c.args.desk.now)
     (g.G.Gate.is_passed c.args.gate.now) (seat_lanes c.args.seats.now) _
     (g.D.Desk.turn_lanes c.loop-at.turn) (g.D.Desk.turn_lanes c.lend_to.new.turn) _
     (g.D.Desk.turn_view c.loop-at.turn) (g.D.Desk.turn_view c.lend_to.new.turn)

@@ -8,7 +8,7 @@ use Rattle.bank_lanes.proofs.turns.lend_share.Goals as goal
 
 pub lend_rest-requires-clause-seats : goal.lend_rest-requires-clause-seats
 lend_rest-requires-clause-seats g c = λ κs live.
-    (advance g.D.Desk.loan g.D.Desk.spent g.W.Work.job (g.D.Desk.origin c.args.desk.now)
+    (advance g.D.Desk.lent g.D.Desk.spent g.W.Work.job (g.D.Desk.origin c.args.desk.now)
     (g.G.Gate.is_passed c.args.gate.now) (seat_lanes c.args.seats.now) (g.D.Desk.turn_lanes c.args.turn.now)
     (g.D.Desk.turn_lanes c.args.turn.now) (g.D.Desk.turn_lanes c.lend_to-found.new.turn)
     (g.D.Desk.turn_view c.args.turn.now) (g.D.Desk.turn_view c.args.turn.now)
@@ -22,7 +22,7 @@ lend_rest-requires-clause-kept g c = λ κs live. All-set HasKept c.args.seats.n
 
 pub returns-then-eq-clause-keeps : goal.returns-then-eq-clause-keeps
 returns-then-eq-clause-keeps g c =
-    let first = advance g.D.Desk.loan g.D.Desk.spent g.W.Work.job (g.D.Desk.origin c.args.desk.now)
+    let first = advance g.D.Desk.lent g.D.Desk.spent g.W.Work.job (g.D.Desk.origin c.args.desk.now)
     (g.G.Gate.is_passed c.args.gate.now) (seat_lanes c.args.seats.now) (g.D.Desk.turn_lanes c.args.turn.now)
     (g.D.Desk.turn_lanes c.args.turn.now) (g.D.Desk.turn_lanes c.lend_to-found.new.turn)
     (g.D.Desk.turn_view c.args.turn.now) (g.D.Desk.turn_view c.args.turn.now)
@@ -37,7 +37,7 @@ returns-then-eq-clause-keeps g c =
 
 pub returns-else-eq-clause-seats : goal.returns-else-eq-clause-seats
 returns-else-eq-clause-seats g c =
-    (advance g.D.Desk.loan g.D.Desk.spent g.W.Work.job (g.D.Desk.origin c.args.desk.now)
+    (advance g.D.Desk.lent g.D.Desk.spent g.W.Work.job (g.D.Desk.origin c.args.desk.now)
     (g.G.Gate.is_passed c.args.gate.now) (seat_lanes c.args.seats.now) (g.D.Desk.turn_lanes c.args.turn.now)
     (g.D.Desk.turn_lanes c.args.turn.now) (g.D.Desk.turn_lanes c.lend_to-found.new.turn)
     (g.D.Desk.turn_view c.args.turn.now) (g.D.Desk.turn_view c.args.turn.now)
@@ -48,7 +48,7 @@ returns-else-eq-clause-seats g c =
 
 pub returns-else-eq-clause-found : goal.returns-else-eq-clause-found
 returns-else-eq-clause-found g c =
-    found_one g.D.Desk.loan g.D.Desk.spent g.W.Work.job (g.D.Desk.origin c.args.desk.now)
+    found_one g.D.Desk.lent g.D.Desk.spent g.W.Work.job (g.D.Desk.origin c.args.desk.now)
     (g.G.Gate.is_passed c.args.gate.now) c.lend_to-found.result c.lend_to-found.new.seat _
     (g.D.Desk.turn_view c.args.turn.now) (g.D.Desk.turn_view c.lend_to-found.new.turn)
     (All-set HasKept c.args.seats.now 0 c.lend_to-found.new.seat c.lend_to-found.ensures.kept (λ k d l. (c.requires.free k d l).1))

@@ -8,7 +8,7 @@ invariant-turns g l = record {
   desk : g.D.Desk.is_of l.desk l.pass;
   keeps : KeepsTo (g.G.Gate.is_passed l.gate) (seat_lanes l.initial.seats) (g.D.Desk.lanes_of l.initial.pass) (g.D.Desk.view l.initial.pass) (g.D.Desk.lanes_of l.pass) (g.D.Desk.view l.pass);
   same : seat_lanes l.seats ≡ seat_lanes l.initial.seats;
-  seats : AreSeats g.D.Desk.loan g.D.Desk.spent g.W.Work.job (g.D.Desk.origin l.desk) (g.G.Gate.is_passed l.gate) (g.D.Desk.lanes_of l.pass) l.seats (g.D.Desk.view l.pass).seen;
+  seats : AreSeats g.D.Desk.lent g.D.Desk.spent g.W.Work.job (g.D.Desk.origin l.desk) (g.G.Gate.is_passed l.gate) (g.D.Desk.lanes_of l.pass) l.seats (g.D.Desk.view l.pass).seen;
   kept : All HasKept l.seats;
   filled : AreFilledFrom 0 l.seats;
 }

@@ -8,7 +8,7 @@ use Rattle.bank_lanes.proofs.turns.take_turn.Goals as goal
 
 pub under_turn-found-requires-clause-seats : goal.under_turn-found-requires-clause-seats
 under_turn-found-requires-clause-seats g c = λ κs live.
-    seats_kept g.D.Desk.loan g.D.Desk.spent g.W.Work.job (g.D.Desk.origin c.args.desk.now)
+    seats_kept g.D.Desk.lent g.D.Desk.spent g.W.Work.job (g.D.Desk.origin c.args.desk.now)
     (g.G.Gate.is_passed c.args.gate.now) (g.D.Desk.lanes_of c.args.pass.now)
     (g.D.Desk.turn_lanes c.begin-turn.result) c.args.seats.now (g.D.Desk.view c.args.pass.now).seen
     (g.D.Desk.turn_view c.begin-turn.result).seen

@@ -16,7 +16,7 @@ returns-clause-way g c = λ others empty. not_plenty c.lend_share.result _ _ _ c
 
 pub returns-clause-found : goal.returns-clause-found
 returns-clause-found g c = found_share c.lend_share.result _ _ _ _ _
-    (λ end e. ends_anyhow g.D.Desk.loan g.D.Desk.spent g.W.Work.job (g.D.Desk.origin c.args.desk.now)
+    (λ end e. ends_anyhow g.D.Desk.lent g.D.Desk.spent g.W.Work.job (g.D.Desk.origin c.args.desk.now)
     (g.G.Gate.is_passed c.args.gate.now) c.args.company end _ _ e) c.lend_share.ensures.found
 
 pub returns-clause-alone : goal.returns-clause-alone

@@ -1,7 +1,7 @@
 use Rattle.std.proofs.Common.{ap, sym, subst, ◌∙◌, ◌<◌, ◌≤◌}
 use Rattle.bank_shared.proofs.Turns.{theirs, granted, granted_is, granted_of}
 use Rattle.bank_shared.proofs.UnderTurn.{turn_goes_on}
-use Rattle.bank_shared.proofs.desk.SharedDesk.lend_under.Goals as goal
+use Rattle.bank_shared.proofs.desk.SharedDesk.take_loan.Goals as goal
 
 pub invariant_of-turn : goal.invariant_of-turn
 invariant_of-turn g c =
