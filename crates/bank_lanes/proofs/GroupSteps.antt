@@ -18,7 +18,7 @@ use Rattle.bank_core.specs.Desks.{LoanView, after_event}
 use Rattle.bank_core.specs.Lanes.{is_one_of, own_of}
 use Rattle.bank_core.proofs.Lanes.{same_own}
 use Rattle.bank_core.proofs.Seats.{grown_holds, grown_own, grown_returns}
-use Rattle.bank_lanes.specs.declared.gate.Passes.{Passes}
+use Rattle.bank_lanes.specs.declared.gate.GateLog.{GateLog}
 use Rattle.bank_lanes.specs.Gates.{AreBehind, IsBehind}
 use Rattle.bank_lanes.specs.declared.group.GroupSeat.{GroupSeat}
 use Rattle.bank_lanes.specs.declared.group.Holding.{Holding}
@@ -55,22 +55,23 @@ found_share (found.End end) a p g h i then m = then end m
 pub not_plenty : (f : Found) (a g : Type 0) (h : LaneEnd → Type 0) → MatchFound f a ⊥ g h → f ≢ found.Plenty
 not_plenty f a g h m is = subst (λ (x : Found). MatchFound x a ⊥ g h) is m
 
-module _ {T L S : Type 0} (loan : L → LoanView T) (spent : S → LoanView T) (job : T → Job) (origin : Origin T) (gate : ℕ → ℕ → Type 0) where
+module _ {T L S G : Type 0} (loan : L → LoanView T) (spent : S → LoanView T) (is_passed : G → ℕ → ℕ → Type 0) (job : T → Job) (origin : Origin T) (gate : ℕ → ℕ → Type 0) where
   abbrev Seat : Type 0
-  Seat = GroupSeat L S
+  Seat = GroupSeat L S G
 
   abbrev Sits : Seat → List Event → Type 0
-  Sits seat seen = IsSeatOf loan spent job origin gate seat seen
+  Sits seat seen = IsSeatOf loan spent is_passed job origin gate seat seen
 
   -- a loan that ended, by a commit or by a return
-  pub seat_ended : (lane : ℕ) (gave : Bool) (passes : Passes) (of : LoanView T) (old new : List Event) (kind : EventKind) → held_after kind of.position ≡ None → (gave ≡ false → is_return kind ≡ false)
-      → new ≡ with_event old kind of.lane of.position → passes.lane ≡ lane → IsHeldBy origin lane old of → Sits (record { lane = lane; holding = what.Nothing; gave_back = gave; passes = passes }) new
-  seat_ended lane gave passes of old new kind ends not_back grown its h = record {
+  pub seat_ended : (lane : ℕ) (gave : Bool) (log : GateLog G) (of : LoanView T) (old new : List Event) (kind : EventKind) → held_after kind of.position ≡ None → (gave ≡ false → is_return kind ≡ false)
+      → new ≡ with_event old kind of.lane of.position → log.passes.lane ≡ lane → ((p : ℕ) → is_passed log.gate.now lane p → gate lane p) → IsHeldBy origin lane old of → Sits (record { lane = lane; holding = what.Nothing; gave_back = gave; log = log }) new
+  seat_ended lane gave log of old new kind ends not_back grown its link h = record {
     holding = subst (λ (l : ℕ). holds (own new l) ≡ None) h.lane_is (grown_holds old new kind of.lane of.position grown ∙ ends);
     once = λ kept. subst (λ (l : ℕ). returns (own new l) ≡ 0) h.lane_is
         (grown_returns old new kind of.lane of.position grown ∙ none_more (returns (own old of.lane)) (is_return kind) h.once (not_back kept));
     passes_lane = its;
     passed = tt;
+    its = link;
   }
     where
       none_more : (n : ℕ) (b : Bool) → n ≡ 0 → b ≡ false → n + one_if b ≡ 0
@@ -93,14 +94,16 @@ module _ {T L S : Type 0} (loan : L → LoanView T) (spent : S → LoanView T) (
     once = λ kept. ap returns e ∙ s.once kept;
     passes_lane = s.passes_lane;
     passed = s.passed;
+    its = s.its;
   }
 
   -- a seat that was lent a position
-  pub seat_lent : (lane : ℕ) (gave : Bool) (passes : Passes) (l : L) (of : LoanView T) (position : ℕ)
+  pub seat_lent : (lane : ℕ) (gave : Bool) (log : GateLog G) (l : L) (of : LoanView T) (position : ℕ)
       (old new : List Event) → loan l ≡ of → new ≡ with_event old Grant lane position → of.lane ≡ lane
-      → of.position ≡ position → of.origin ≡ origin → returns (own old lane) ≡ 0 → passes.lane ≡ lane
-      → Sits (record { lane = lane; holding = what.Loan l; gave_back = gave; passes = passes }) new
-  seat_lent lane gave passes l of position old new seen grown on at from none its =
+      → of.position ≡ position → of.origin ≡ origin → returns (own old lane) ≡ 0 → log.passes.lane ≡ lane
+      → ((p : ℕ) → is_passed log.gate.now lane p → gate lane p)
+      → Sits (record { lane = lane; holding = what.Loan l; gave_back = gave; log = log }) new
+  seat_lent lane gave log l of position old new seen grown on at from none its link =
       let back : returns (own new lane) ≡ 0 = (let a = grown_returns old new Grant lane position grown in omega (arith, a, none)) in
       record {
         holding = subst (IsHeldBy origin lane new) (sym seen)
@@ -115,6 +118,7 @@ module _ {T L S : Type 0} (loan : L → LoanView T) (spent : S → LoanView T) (
         once = λ _. back;
         passes_lane = its;
         passed = tt;
+        its = link;
       }
 
   lane_at : (seats : List Seat) (k : ℕ) (d : Seat) → k < length seats → get_or (seat_lanes seats) k 0 ≡ (get_or seats k d).lane
@@ -134,10 +138,10 @@ module _ {T L S : Type 0} (loan : L → LoanView T) (spent : S → LoanView T) (
   -- one seat changes: alone, or as its lane's events do
   module _ (lanes : List ℕ) (seats : List Seat) (at : ℕ) (seat d : Seat) (old new : List Event)
       (within : at < length seats) (same : seat.lane ≡ (get_or seats at d).lane)
-      (all : AreSeats loan spent job origin gate lanes seats old) where
+      (all : AreSeats loan spent is_passed job origin gate lanes seats old) where
     one_changes : (((k : ℕ) (e : Seat) → k < length seats → k ≢ at
         → own new (get_or seats k e).lane ≡ own old (get_or seats k e).lane)) → Sits seat new
-        → AreSeats loan spent job origin gate lanes (set seats at seat) new
+        → AreSeats loan spent is_passed job origin gate lanes (set seats at seat) new
     one_changes others one = record {
       lanes_are = subst (AreOwnLanes lanes) (sym (set_lanes seats at seat d same)) all.lanes_are;
       each = λ k e l.
@@ -148,7 +152,7 @@ module _ {T L S : Type 0} (loan : L → LoanView T) (spent : S → LoanView T) (
           ];
     }
 
-    pub seats_set : GrewBy (get_or seats at d).lane old new → Sits seat new → AreSeats loan spent job origin gate lanes (set seats at seat) new
+    pub seats_set : GrewBy (get_or seats at d).lane old new → Sits seat new → AreSeats loan spent is_passed job origin gate lanes (set seats at seat) new
     seats_set grew one = one_changes
         (λ k e l not. grew.others (get_or seats k e).lane
         (λ is. not (all.lanes_are.apart k at (let n = lanes_length seats in omega (arith, l, n)) (let n = lanes_length seats in omega (arith, within, n))
@@ -158,12 +162,12 @@ module _ {T L S : Type 0} (loan : L → LoanView T) (spent : S → LoanView T) (
   pub seat_set : (lanes : List ℕ) (seats : List Seat) (at : ℕ) (seat d : Seat) (seen : List Event)
       → at < length seats → seat.lane ≡ (get_or seats at d).lane
       → (Sits (get_or seats at d) seen → Sits seat seen)
-      → AreSeats loan spent job origin gate lanes seats seen → AreSeats loan spent job origin gate lanes (set seats at seat) seen
+      → AreSeats loan spent is_passed job origin gate lanes seats seen → AreSeats loan spent is_passed job origin gate lanes (set seats at seat) seen
   seat_set lanes seats at seat d seen within same then all = one_changes lanes seats at seat d seen seen within same all (λ k e l not. refl) (then (all.each at d within))
 
   -- no event of the lanes, which may be more
   pub seats_kept : (lanes more : List ℕ) (seats : List Seat) (old new : List Event) → ((l : ℕ) → is_one_of lanes l ≡ true → is_one_of more l ≡ true) → own_of new lanes ≡ own_of old lanes
-      → AreSeats loan spent job origin gate lanes seats old → AreSeats loan spent job origin gate more seats new
+      → AreSeats loan spent is_passed job origin gate lanes seats old → AreSeats loan spent is_passed job origin gate more seats new
   seats_kept lanes more seats old new wider same all = record {
     lanes_are = record { within = λ k l. wider (get_or (seat_lanes seats) k 0) (all.lanes_are.within k l); apart = all.lanes_are.apart };
     each = λ k d l. seat_stays (get_or seats k d) old new
@@ -175,7 +179,7 @@ module _ {T L S : Type 0} (loan : L → LoanView T) (spent : S → LoanView T) (
 
   -- the lane of a seat is one of them
   pub lane_within : (lanes : List ℕ) (seats : List Seat) (seen : List Event) (k : ℕ) (d : Seat)
-      → k < length seats → AreSeats loan spent job origin gate lanes seats seen
+      → k < length seats → AreSeats loan spent is_passed job origin gate lanes seats seen
       → is_one_of lanes (get_or seats k d).lane ≡ true
   lane_within lanes seats seen k d l all = subst (λ (n : ℕ). is_one_of lanes n ≡ true) (lane_at seats k d l) (all.lanes_are.within k (let n = lanes_length seats in omega (arith, l, n)))
 
@@ -194,16 +198,16 @@ module _ {T L S : Type 0} (loan : L → LoanView T) (spent : S → LoanView T) (
   -- a turn goes on by what one seat's lane does
   pub advance : (mine ls ms ns : List ℕ) (u v w : PassView) (seats : List Seat) (at : ℕ) (seat d : Seat)
       → at < length seats → seat_lanes seats ≡ mine → KeepsTo gate mine ls u ms v
-      → AreSeats loan spent job origin gate ms seats v.seen
+      → AreSeats loan spent is_passed job origin gate ms seats v.seen
       → ns ≡ ms → seat.lane ≡ (get_or seats at d).lane → StepsOn gate (get_or seats at d).lane v w → Sits seat w.seen
-      → KeepsTo gate mine ls u ns w × (seat_lanes (set seats at seat) ≡ mine) × AreSeats loan spent job origin gate ns (set seats at seat) w.seen
+      → KeepsTo gate mine ls u ns w × (seat_lanes (set seats at seat) ≡ mine) × AreSeats loan spent is_passed job origin gate ns (set seats at seat) w.seen
   advance mine ls ms ns u v w seats at seat d within same keeps all is lane step one = (
     keeps_then gate mine ls ms ns u v w keeps
         (keeps_step gate mine ms ns (get_or seats at d).lane v w is
         (subst (λ (x : List ℕ). is_one_of x (get_or seats at d).lane ≡ true) same
         (lane_among seats at d within)) step),
     set_lanes seats at seat d lane ∙ same,
-    subst (λ (x : List ℕ). AreSeats loan spent job origin gate x (set seats at seat) w.seen) (sym is) (seats_set ms seats at seat d v.seen w.seen within lane all step.grew one),
+    subst (λ (x : List ℕ). AreSeats loan spent is_passed job origin gate x (set seats at seat) w.seen) (sym is) (seats_set ms seats at seat d v.seen w.seen within lane all step.grew one),
   )
 
   place_of : (ns : List ℕ) (l : ℕ) → is_one_of ns l ≡ true → (k : ℕ) × (k < length ns) × (get_or ns k 0 ≡ l)
@@ -218,7 +222,7 @@ module _ {T L S : Type 0} (loan : L → LoanView T) (spent : S → LoanView T) (
 
   -- empty seats' lanes hold nothing
   pub none_held : (lanes : List ℕ) (seats : List Seat) (seen : List Event)
-      → AreSeats loan spent job origin gate lanes seats seen → All IsEmpty seats → (l : ℕ)
+      → AreSeats loan spent is_passed job origin gate lanes seats seen → All IsEmpty seats → (l : ℕ)
       → is_one_of (seat_lanes seats) l ≡ true → holds (own seen l) ≡ None
   none_held lanes seats seen all empty l is =
       let r = place_of (seat_lanes seats) l is in
@@ -230,7 +234,7 @@ module _ {T L S : Type 0} (loan : L → LoanView T) (spent : S → LoanView T) (
 
   -- the lanes of seats that have kept have given nothing back
   pub none_back : (lanes : List ℕ) (seats : List Seat) (seen : List Event)
-      → AreSeats loan spent job origin gate lanes seats seen → All HasKept seats → (l : ℕ)
+      → AreSeats loan spent is_passed job origin gate lanes seats seen → All HasKept seats → (l : ℕ)
       → is_one_of (seat_lanes seats) l ≡ true → returns (own seen l) ≡ 0
   none_back lanes seats seen all kept l is =
       let r = place_of (seat_lanes seats) l is in
@@ -265,96 +269,98 @@ module _ {T L S : Type 0} (loan : L → LoanView T) (spent : S → LoanView T) (
     many = λ is. let other = (e.many is).0 in absurd (cc other);
   }
 
-  -- a new seat
-  seat_new : (seat : Seat) (l : ℕ) (seen : List Event) → IsNewSeat l seat → holds (own seen l) ≡ None → returns (own seen l) ≡ 0 → Sits seat seen
-  seat_new seat l seen new free none = record {
-    holding = subst (λ (x : Holding L S). IsHolding loan spent job origin x seat.lane seen) (sym new.empty) (ap (λ n. holds (own seen n)) new.lane_is ∙ free);
-    once = λ kept. ap (λ n. returns (own seen n)) new.lane_is ∙ none;
-    passes_lane = new.passes.lane_is ∙ sym new.lane_is;
-    passed = subst (λ (x : Holding L S). IsPassed gate spent x seat.passes) (sym new.empty) tt;
-  }
+  -- a new seat, of a gate that is this one
+  module _ (of : G) (link : (l p : ℕ) → is_passed of l p → gate l p) where
+    seat_new : (seat : Seat) (l : ℕ) (seen : List Event) → IsNewSeat of l seat → holds (own seen l) ≡ None → returns (own seen l) ≡ 0 → Sits seat seen
+    seat_new seat l seen new free none = record {
+      holding = subst (λ (x : Holding L S). IsHolding loan spent job origin x seat.lane seen) (sym new.empty) (ap (λ n. holds (own seen n)) new.lane_is ∙ free);
+      once = λ kept. ap (λ n. returns (own seen n)) new.lane_is ∙ none;
+      passes_lane = new.passes.lane_is ∙ sym new.lane_is;
+      passed = subst (λ (x : Holding L S). IsPassed (is_passed seat.log.gate.now) spent x seat.log.passes) (sym new.empty) tt;
+      its = λ p has. link seat.lane p (subst (λ (x : G). is_passed x seat.lane p) new.gate_is has);
+    }
 
-  -- a first one, and one more
-  first_one : (lanes : List ℕ) (seat : Seat) (l : ℕ) (seen : List Event) → IsNewSeat l seat
-      → is_one_of lanes l ≡ true → holds (own seen l) ≡ None → returns (own seen l) ≡ 0
-      → AreSeats loan spent job origin gate lanes (seat ∷ []) seen
-  first_one lanes seat l seen new one free none = record { lanes_are = record { within = within; apart = apart }; each = each }
-    where
-      within : (k : ℕ) → k < 1 → is_one_of lanes (get_or (seat.lane ∷ []) k 0) ≡ true
-      within zero lt = subst (λ (n : ℕ). is_one_of lanes n ≡ true) (sym new.lane_is) one
-      within (suc k) lt = absurd (omega (arith, lt))
+    -- a first one, and one more
+    first_one : (lanes : List ℕ) (seat : Seat) (l : ℕ) (seen : List Event) → IsNewSeat of l seat
+        → is_one_of lanes l ≡ true → holds (own seen l) ≡ None → returns (own seen l) ≡ 0
+        → AreSeats loan spent is_passed job origin gate lanes (seat ∷ []) seen
+    first_one lanes seat l seen new one free none = record { lanes_are = record { within = within; apart = apart }; each = each }
+      where
+        within : (k : ℕ) → k < 1 → is_one_of lanes (get_or (seat.lane ∷ []) k 0) ≡ true
+        within zero lt = subst (λ (n : ℕ). is_one_of lanes n ≡ true) (sym new.lane_is) one
+        within (suc k) lt = absurd (omega (arith, lt))
 
-      apart : (j k : ℕ) → j < 1 → k < 1 → get_or (seat.lane ∷ []) j 0 ≡ get_or (seat.lane ∷ []) k 0 → j ≡ k
-      apart j k a b e = omega (arith, a, b)
+        apart : (j k : ℕ) → j < 1 → k < 1 → get_or (seat.lane ∷ []) j 0 ≡ get_or (seat.lane ∷ []) k 0 → j ≡ k
+        apart j k a b e = omega (arith, a, b)
 
-      each : (k : ℕ) (d : Seat) → k < 1 → Sits (get_or (seat ∷ []) k d) seen
-      each zero d lt = seat_new seat l seen new free none
-      each (suc k) d lt = absurd (omega (arith, lt))
+        each : (k : ℕ) (d : Seat) → k < 1 → Sits (get_or (seat ∷ []) k d) seen
+        each zero d lt = seat_new seat l seen new free none
+        each (suc k) d lt = absurd (omega (arith, lt))
 
-  pub first_seats : (lanes : List ℕ) (seats : List Seat) (l : ℕ) (seen : List Event) → length seats ≡ 1
-      → All (IsNewSeat l) seats → is_one_of lanes l ≡ true → holds (own seen l) ≡ None
-      → returns (own seen l) ≡ 0 → AreSeats loan spent job origin gate lanes seats seen
-  first_seats lanes [] l seen long new one free none = absurd (omega (arith, long))
-  first_seats lanes (seat ∷ []) l seen long new one free none = first_one lanes seat l seen (new 0 seat (omega arith)) one free none
-  first_seats lanes (x ∷ y ∷ seats) l seen long new one free none = absurd (omega (arith, long))
+    pub first_seats : (lanes : List ℕ) (seats : List Seat) (l : ℕ) (seen : List Event) → length seats ≡ 1
+        → All (IsNewSeat of l) seats → is_one_of lanes l ≡ true → holds (own seen l) ≡ None
+        → returns (own seen l) ≡ 0 → AreSeats loan spent is_passed job origin gate lanes seats seen
+    first_seats lanes [] l seen long new one free none = absurd (omega (arith, long))
+    first_seats lanes (seat ∷ []) l seen long new one free none = first_one lanes seat l seen (new 0 seat (omega arith)) one free none
+    first_seats lanes (x ∷ y ∷ seats) l seen long new one free none = absurd (omega (arith, long))
 
-  pub seats_pushed : (before lanes : List ℕ) (seats : List Seat) (seat : Seat) (l : ℕ) (seen : List Event)
-      → IsNewSeat l seat → AreOwnLanes before (seat_lanes seats) → is_one_of before l ≡ false
-      → AreSeats loan spent job origin gate lanes seats seen
-      → is_one_of lanes l ≡ true → holds (own seen l) ≡ None → returns (own seen l) ≡ 0 → AreSeats loan spent job origin gate lanes (seats ++ seat ∷ []) seen
-  seats_pushed before lanes seats seat l seen new was not_one all one free none = record {
-    lanes_are = subst (AreOwnLanes lanes) (sym (map_push seats)) (record { within = within; apart = apart });
-    each = each;
-  }
-    where
-      mine : List ℕ
-      mine = seat_lanes seats
+    pub seats_pushed : (before lanes : List ℕ) (seats : List Seat) (seat : Seat) (l : ℕ) (seen : List Event)
+        → IsNewSeat of l seat → AreOwnLanes before (seat_lanes seats) → is_one_of before l ≡ false
+        → AreSeats loan spent is_passed job origin gate lanes seats seen
+        → is_one_of lanes l ≡ true → holds (own seen l) ≡ None → returns (own seen l) ≡ 0 → AreSeats loan spent is_passed job origin gate lanes (seats ++ seat ∷ []) seen
+    seats_pushed before lanes seats seat l seen new was not_one all one free none = record {
+      lanes_are = subst (AreOwnLanes lanes) (sym (map_push seats)) (record { within = within; apart = apart });
+      each = each;
+    }
+      where
+        mine : List ℕ
+        mine = seat_lanes seats
 
-      map_push : (xs : List Seat) → seat_lanes (xs ++ seat ∷ []) ≡ seat_lanes xs ++ l ∷ []
-      map_push [] = ap (λ (n : ℕ). n ∷ []) new.lane_is
-      map_push (x ∷ xs) = ap (λ (ns : List ℕ). x.lane ∷ ns) (map_push xs)
+        map_push : (xs : List Seat) → seat_lanes (xs ++ seat ∷ []) ≡ seat_lanes xs ++ l ∷ []
+        map_push [] = ap (λ (n : ℕ). n ∷ []) new.lane_is
+        map_push (x ∷ xs) = ap (λ (ns : List ℕ). x.lane ∷ ns) (map_push xs)
 
-      long : {X : Type 0} (xs : List X) (x : X) → length (xs ++ x ∷ []) ≡ suc (length xs)
-      long [] x = refl
-      long (y ∷ xs) x = ap suc (long xs x)
+        long : {X : Type 0} (xs : List X) (x : X) → length (xs ++ x ∷ []) ≡ suc (length xs)
+        long [] x = refl
+        long (y ∷ xs) x = ap suc (long xs x)
 
-      at_end : (k : ℕ) → k < length (mine ++ l ∷ []) → k ≢ length mine → k < length mine
-      at_end k lt not = let n = long mine l in omega (arith, lt, n, not)
+        at_end : (k : ℕ) → k < length (mine ++ l ∷ []) → k ≢ length mine → k < length mine
+        at_end k lt not = let n = long mine l in omega (arith, lt, n, not)
 
-      within : (k : ℕ) → k < length (mine ++ l ∷ []) → is_one_of lanes (get_or (mine ++ l ∷ []) k 0) ≡ true
-      within k lt = elim (cases_eq k (length mine)) [
-        | inl e ↦ subst (λ (n : ℕ). is_one_of lanes n ≡ true) (sym (ap (λ (j : ℕ). get_or (mine ++ l ∷ []) j 0) e ∙ get_or-append_seam mine l [] 0)) one
-        | inr n ↦ subst (λ (x : ℕ). is_one_of lanes x ≡ true) (sym (get_or_append_left mine (l ∷ []) 0 k (at_end k lt n))) (all.lanes_are.within k (at_end k lt n))
-      ]
-
-      other : (k : ℕ) → k < length mine → get_or mine k 0 ≡ l → ⊥
-      other k lt e = let t : is_one_of before l ≡ true = subst (λ (n : ℕ). is_one_of before n ≡ true) e (was.within k lt) in absurd (cc (t, not_one))
-
-      left_is : (k : ℕ) → k < length mine → get_or (mine ++ l ∷ []) k 0 ≡ get_or mine k 0
-      left_is k lt = get_or_append_left mine (l ∷ []) 0 k lt
-
-      end_is : (k : ℕ) → k ≡ length mine → get_or (mine ++ l ∷ []) k 0 ≡ l
-      end_is k e = ap (λ (j : ℕ). get_or (mine ++ l ∷ []) j 0) e ∙ get_or-append_seam mine l [] 0
-
-      apart : (j k : ℕ) → j < length (mine ++ l ∷ []) → k < length (mine ++ l ∷ []) → get_or (mine ++ l ∷ []) j 0 ≡ get_or (mine ++ l ∷ []) k 0 → j ≡ k
-      apart j k a b e = elim (cases_eq j (length mine)) [
-        | inl ej ↦ elim (cases_eq k (length mine)) [
-          | inl ek ↦ ej ∙ sym ek
-          | inr nk ↦ absurd (other k (at_end k b nk) (sym (left_is k (at_end k b nk)) ∙ (sym e ∙ end_is j ej)))
+        within : (k : ℕ) → k < length (mine ++ l ∷ []) → is_one_of lanes (get_or (mine ++ l ∷ []) k 0) ≡ true
+        within k lt = elim (cases_eq k (length mine)) [
+          | inl e ↦ subst (λ (n : ℕ). is_one_of lanes n ≡ true) (sym (ap (λ (j : ℕ). get_or (mine ++ l ∷ []) j 0) e ∙ get_or-append_seam mine l [] 0)) one
+          | inr n ↦ subst (λ (x : ℕ). is_one_of lanes x ≡ true) (sym (get_or_append_left mine (l ∷ []) 0 k (at_end k lt n))) (all.lanes_are.within k (at_end k lt n))
         ]
-        | inr nj ↦ elim (cases_eq k (length mine)) [
-          | inl ek ↦ absurd (other j (at_end j a nj) (sym (left_is j (at_end j a nj)) ∙ (e ∙ end_is k ek)))
-          | inr nk ↦ was.apart j k (at_end j a nj) (at_end k b nk) (sym (left_is j (at_end j a nj)) ∙ (e ∙ left_is k (at_end k b nk)))
-        ]
-      ]
 
-      each : (k : ℕ) (d : Seat) → k < length (seats ++ seat ∷ []) → Sits (get_or (seats ++ seat ∷ []) k d) seen
-      each k d lt = elim (cases_eq k (length seats)) [
-        | inl e ↦ subst (λ (x : Seat). Sits x seen) (sym (ap (λ (j : ℕ). get_or (seats ++ seat ∷ []) j d) e ∙ get_or-append_seam seats seat [] d)) (seat_new seat l seen new free none)
-        | inr n ↦ let here : k < length seats = (let m = long seats seat in omega (arith, lt, m, n))
-            in subst (λ (x : Seat). Sits x seen) (sym (get_or_append_left seats (seat ∷ []) d k here))
-            (all.each k d here)
-      ]
+        other : (k : ℕ) → k < length mine → get_or mine k 0 ≡ l → ⊥
+        other k lt e = let t : is_one_of before l ≡ true = subst (λ (n : ℕ). is_one_of before n ≡ true) e (was.within k lt) in absurd (cc (t, not_one))
+
+        left_is : (k : ℕ) → k < length mine → get_or (mine ++ l ∷ []) k 0 ≡ get_or mine k 0
+        left_is k lt = get_or_append_left mine (l ∷ []) 0 k lt
+
+        end_is : (k : ℕ) → k ≡ length mine → get_or (mine ++ l ∷ []) k 0 ≡ l
+        end_is k e = ap (λ (j : ℕ). get_or (mine ++ l ∷ []) j 0) e ∙ get_or-append_seam mine l [] 0
+
+        apart : (j k : ℕ) → j < length (mine ++ l ∷ []) → k < length (mine ++ l ∷ []) → get_or (mine ++ l ∷ []) j 0 ≡ get_or (mine ++ l ∷ []) k 0 → j ≡ k
+        apart j k a b e = elim (cases_eq j (length mine)) [
+          | inl ej ↦ elim (cases_eq k (length mine)) [
+            | inl ek ↦ ej ∙ sym ek
+            | inr nk ↦ absurd (other k (at_end k b nk) (sym (left_is k (at_end k b nk)) ∙ (sym e ∙ end_is j ej)))
+          ]
+          | inr nj ↦ elim (cases_eq k (length mine)) [
+            | inl ek ↦ absurd (other j (at_end j a nj) (sym (left_is j (at_end j a nj)) ∙ (e ∙ end_is k ek)))
+            | inr nk ↦ was.apart j k (at_end j a nj) (at_end k b nk) (sym (left_is j (at_end j a nj)) ∙ (e ∙ left_is k (at_end k b nk)))
+          ]
+        ]
+
+        each : (k : ℕ) (d : Seat) → k < length (seats ++ seat ∷ []) → Sits (get_or (seats ++ seat ∷ []) k d) seen
+        each k d lt = elim (cases_eq k (length seats)) [
+          | inl e ↦ subst (λ (x : Seat). Sits x seen) (sym (ap (λ (j : ℕ). get_or (seats ++ seat ∷ []) j d) e ∙ get_or-append_seam seats seat [] d)) (seat_new seat l seen new free none)
+          | inr n ↦ let here : k < length seats = (let m = long seats seat in omega (arith, lt, m, n))
+              in subst (λ (x : Seat). Sits x seen) (sym (get_or_append_left seats (seat ∷ []) d k here))
+              (all.each k d here)
+        ]
 
 -- what holds of what stands from one place on, whatever becomes of that one
 pub after_set : {X : Type 0} (P : X → Type 0) (xs : List X) (at : ℕ) (x : X) → AllWithin P xs at (length xs) → AllWithin P (set xs at x) (at + 1) (length (set xs at x))

@@ -72,52 +72,12 @@ module _ {T : Type 0} (job : T → Job) (origin : Origin T) where
   EndsAfter ManyReady seen = ⊥
 
 module _ {L S : Type 0} where
-  -- the lane numbers of seats
-  abbrev pub seat_lanes : List (GroupSeat L S) → List ℕ
-  seat_lanes seats = map (λ seat. seat.lane) seats
-
-  -- nothing is lent to the seat
-  abbrev pub IsEmpty : GroupSeat L S → Type 0
-  IsEmpty seat = seat.holding ≡ what.Nothing
-
-  -- something is lent to it, performed or not
-  abbrev pub IsLent : GroupSeat L S → Type 0
-  IsLent seat = seat.holding ≢ what.Nothing
-
-  -- it has given nothing back
-  abbrev pub HasKept : GroupSeat L S → Type 0
-  HasKept seat = seat.gave_back ≡ false
-
-  abbrev pub IsFree : GroupSeat L S → Type 0
-  IsFree seat = IsEmpty seat × HasKept seat
-
-  -- from one seat on, no seat behind an empty one holds anything
-  abbrev pub AreFilledFrom : ℕ → List (GroupSeat L S) → Type 0
-  AreFilledFrom from seats =
-      (j k : ℕ) (d : GroupSeat L S) → from ≤ j → j < k → k < length seats
-      → IsEmpty (slice_index_or seats j d) → IsEmpty (slice_index_or seats k d)
-
-  -- the seat of a lane that was lent nothing yet
-  pub record IsNewSeat (lane : ℕ) (seat : GroupSeat L S) : Type 0 where
-    pub lane_is : seat.lane ≡ lane
-    pub empty : IsEmpty seat
-    pub kept : HasKept seat
-    pub passes : HasNoPasses lane seat.passes
-
   -- this gate is passed once for a loan that is not performed yet, and else not
   abbrev pub PassesFor : {T : Type 0} → (ℕ → ℕ → Type 0) → (L → LoanView T) → Holding L S
       → Passes → Passes → Type 0
   PassesFor gate loan what.Nothing old new = new ≡ old
   PassesFor gate loan (what.Loan l) old new = HasPassedOnce gate old (loan l).position new
   PassesFor gate loan (what.Performed s effects) old new = new ≡ old
-
-  -- each seat has passed this gate once more if it was lent something, and else not
-  abbrev pub PassForEach : {T : Type 0} → (ℕ → ℕ → Type 0) → (L → LoanView T)
-      → List (GroupSeat L S) → List (GroupSeat L S) → Type 0
-  PassForEach gate loan old new =
-      (k : ℕ) (d : GroupSeat L S) → k < length old
-      → PassesFor gate loan (slice_index_or old k d).holding (slice_index_or old k d).passes
-      (slice_index_or new k d).passes
 
   -- for what is performed this gate was passed, and nothing after it
   abbrev pub IsPassed : {T : Type 0} → (ℕ → ℕ → Type 0) → (S → LoanView T) → Holding L S
@@ -127,16 +87,11 @@ module _ {L S : Type 0} where
   IsPassed gate spent (what.Performed s effects) passes =
       HasJustPassed (spent s).position passes × gate passes.lane (spent s).position
 
-  -- at the end all seats are empty, one gave back only where the end says so, where it is finished
-  -- all positions are done, where there was no share it was one of the least ready position, and where
-  -- many are ready it worked alone
-  pub record EndsWell {T : Type 0} (company : Company) (job : T → Job) (origin : Origin T)
-      (end : LaneEnd) (seats : List (GroupSeat L S)) (v : PassView) : Type 0 where
-    pub empty : All IsEmpty seats
-    pub kept : end ≢ GaveBack → All HasKept seats
-    pub done : end ≡ Finished → EndsAfter job origin Finished v.seen
-    pub short : end ≡ NoShare → EndsAfter job origin NoShare v.seen
-    pub many : end ≡ ManyReady → (company ≡ Alone) × HasManyAfter job origin v.seen
+  -- what is lent to the seat is of this origin
+  abbrev pub IsOf : {T : Type 0} → (L → LoanView T) → Origin T → Holding L S → Type 0
+  IsOf loan origin what.Nothing = ⊤
+  IsOf loan origin (what.Loan l) = (loan l).origin ≡ origin
+  IsOf loan origin (what.Performed s effects) = ⊤
 
   module _ {T : Type 0} (loan : L → LoanView T) (spent : S → LoanView T) (job : T → Job)
       (origin : Origin T) where
@@ -155,33 +110,86 @@ module _ {L S : Type 0} where
     HoldsLeast (what.Loan l) seen = IsLeastReadyAfter job origin seen (loan l).position
     HoldsLeast (what.Performed s effects) seen = ⊥
 
+module _ {L S G : Type 0} where
+  -- the lane numbers of seats
+  abbrev pub seat_lanes : List (GroupSeat L S G) → List ℕ
+  seat_lanes seats = map (λ seat. seat.lane) seats
+
+  -- nothing is lent to the seat
+  abbrev pub IsEmpty : GroupSeat L S G → Type 0
+  IsEmpty seat = seat.holding ≡ what.Nothing
+
+  -- something is lent to it, performed or not
+  abbrev pub IsLent : GroupSeat L S G → Type 0
+  IsLent seat = seat.holding ≢ what.Nothing
+
+  -- it has given nothing back
+  abbrev pub HasKept : GroupSeat L S G → Type 0
+  HasKept seat = seat.gave_back ≡ false
+
+  abbrev pub IsFree : GroupSeat L S G → Type 0
+  IsFree seat = IsEmpty seat × HasKept seat
+
+  -- from one seat on, no seat behind an empty one holds anything
+  abbrev pub AreFilledFrom : ℕ → List (GroupSeat L S G) → Type 0
+  AreFilledFrom from seats =
+      (j k : ℕ) (d : GroupSeat L S G) → from ≤ j → j < k → k < length seats
+      → IsEmpty (slice_index_or seats j d) → IsEmpty (slice_index_or seats k d)
+
+  -- the seat of a lane that was lent nothing yet, with this gate
+  pub record IsNewSeat (gate : G) (lane : ℕ) (seat : GroupSeat L S G) : Type 0 where
+    pub lane_is : seat.lane ≡ lane
+    pub empty : IsEmpty seat
+    pub kept : HasKept seat
+    pub passes : HasNoPasses lane seat.log.passes
+    pub gate_is : seat.log.gate.now ≡ gate
+
+  -- each seat has passed its gate once more if it was lent something, and else not
+  abbrev pub PassForEach : {T : Type 0} → (G → ℕ → ℕ → Type 0) → (L → LoanView T)
+      → List (GroupSeat L S G) → List (GroupSeat L S G) → Type 0
+  PassForEach is_passed loan old new =
+      (k : ℕ) (d : GroupSeat L S G) → k < length old
+      → PassesFor (is_passed (slice_index_or old k d).log.gate.now) loan
+      (slice_index_or old k d).holding (slice_index_or old k d).log.passes
+      (slice_index_or new k d).log.passes
+
+  -- at the end all seats are empty, one gave back only where the end says so, where it is finished
+  -- all positions are done, where there was no share it was one of the least ready position, and where
+  -- many are ready it worked alone
+  pub record EndsWell {T : Type 0} (company : Company) (job : T → Job) (origin : Origin T)
+      (end : LaneEnd) (seats : List (GroupSeat L S G)) (v : PassView) : Type 0 where
+    pub empty : All IsEmpty seats
+    pub kept : end ≢ GaveBack → All HasKept seats
+    pub done : end ≡ Finished → EndsAfter job origin Finished v.seen
+    pub short : end ≡ NoShare → EndsAfter job origin NoShare v.seen
+    pub many : end ≡ ManyReady → (company ≡ Alone) × HasManyAfter job origin v.seen
+
+  module _ {T : Type 0} (loan : L → LoanView T) (spent : S → LoanView T) (job : T → Job)
+      (origin : Origin T) where
     -- What a lend finds, with the seat that it leaves: a loan of the position that was the least
     -- ready; or nothing, and then nothing happened, and no position was ready, or none could be
     -- lent any more.
-    abbrev pub HasFound : Found → GroupSeat L S → PassView → PassView → Type 0
-    HasFound found.Loan seat v w = HoldsLeast seat.holding v.seen
+    abbrev pub HasFound : Found → GroupSeat L S G → PassView → PassView → Type 0
+    HasFound found.Loan seat v w = HoldsLeast loan spent job origin seat.holding v.seen
     HasFound found.Plenty seat v w = ⊥
     HasFound found.Nothing seat v w = IsEmpty seat × (w ≡ v) × NoneNowAfter job origin v.seen
     HasFound (found.End end) seat v w = IsEmpty seat × (w ≡ v) × EndsAfter job origin end v.seen
 
-    module _ (gate : ℕ → ℕ → Type 0) where
-      -- the seat of a lane: its lane has given something back only where it says so, and has passed
-      -- this gate for what is performed
-      pub record IsSeatOf (seat : GroupSeat L S) (seen : List Event) : Type 0 where
-        pub holding : IsHolding seat.holding seat.lane seen
-        pub once : seat.gave_back ≡ false → returns (own seen seat.lane) ≡ 0
-        pub passes_lane : seat.passes.lane ≡ seat.lane
-        pub passed : IsPassed gate spent seat.holding seat.passes
+  module _ {T : Type 0} (loan : L → LoanView T) (spent : S → LoanView T)
+      (is_passed : G → ℕ → ℕ → Type 0) (job : T → Job) (origin : Origin T)
+      (gate : ℕ → ℕ → Type 0) where
+    -- The seat of a lane: its lane has given something back only where it says so. Its gate is
+    -- this one, which it has passed for what is performed.
+    pub record IsSeatOf (seat : GroupSeat L S G) (seen : List Event) : Type 0 where
+      pub holding : IsHolding loan spent job origin seat.holding seat.lane seen
+      pub once : seat.gave_back ≡ false → returns (own seen seat.lane) ≡ 0
+      pub passes_lane : seat.log.passes.lane ≡ seat.lane
+      pub passed : IsPassed (is_passed seat.log.gate.now) spent seat.holding seat.log.passes
+      pub its : (position : ℕ) → is_passed seat.log.gate.now seat.lane position → gate seat.lane position
 
-      -- seats of lanes of a pass
-      pub record AreSeats (lanes : List ℕ) (seats : List (GroupSeat L S)) (seen : List Event)
-          : Type 0 where
-        pub lanes_are : AreOwnLanes lanes (seat_lanes seats)
-        pub each : (k : ℕ) (d : GroupSeat L S) → k < length seats
-            → IsSeatOf (slice_index_or seats k d) seen
-
-  -- what is lent to the seat is of this origin
-  abbrev pub IsOf : {T : Type 0} → (L → LoanView T) → Origin T → Holding L S → Type 0
-  IsOf loan origin what.Nothing = ⊤
-  IsOf loan origin (what.Loan l) = (loan l).origin ≡ origin
-  IsOf loan origin (what.Performed s effects) = ⊤
+    -- seats of lanes of a pass
+    pub record AreSeats (lanes : List ℕ) (seats : List (GroupSeat L S G)) (seen : List Event)
+        : Type 0 where
+      pub lanes_are : AreOwnLanes lanes (seat_lanes seats)
+      pub each : (k : ℕ) (d : GroupSeat L S G) → k < length seats
+          → IsSeatOf (slice_index_or seats k d) seen

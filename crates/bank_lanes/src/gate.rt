@@ -66,3 +66,41 @@ impl Passes {
         self.positions = one_more(&self.positions, position);
     }
 }
+
+/// A gate in the record of a lane's passes. Who has no more than the record can pass the gate by `pass`
+/// alone, which notes it.
+#[derive(Drop)]
+pub struct GateLog<'a, G> {
+    gate: &'a G,
+    passes: Passes,
+}
+
+impl<'a, G: Gate> GateLog<'a, G> {
+    /// No passes yet.
+    pub fn new(gate: &'a G, lane: u32) -> GateLog<'a, G>
+        ensures gate { result.gate.now ≡ gate.now }
+        ensures none { HasNoPasses lane result.passes }
+    {
+        GateLog {
+            gate,
+            passes: Passes::none(lane),
+        }
+    }
+
+    /// Passes the gate before a position.
+    pub fn pass(&mut self, position: u32)
+        ensures gate { self.new.gate ≡ self.old.gate }
+        ensures once { HasPassedOnce (G.is_passed self.old.gate.now) self.old.passes position
+            self.new.passes }
+        ensures last { HasJustPassed position self.new.passes }
+    {
+        self.passes.pass(self.gate, position);
+    }
+}
+
+/// Notes which gate it is.
+pub(crate) fn noted<G>(gate: &G) -> Note<G>
+    ensures { result.value ≡ gate.now }
+{
+    Note::told_by(gate)
+}

@@ -5,8 +5,9 @@ ghost use Rattle.bank_lanes.specs.Gates.{HasPassedOnce};
 ghost use Rattle.bank_lanes.specs.Groups.{IsEmpty, IsHeldBy, IsHolding, IsNewSeat, IsOf, IsPassed, IsSeatOf, AreFilledFrom, AreSeats, HasKept, PassForEach, PassesFor, seat_lanes};
 ghost use Rattle.bank_lanes.specs.declared.group.Holding.TheVariants.{Nothing};
 
-use crate::gate::{Gate, Passes};
+use crate::gate::{Gate, GateLog};
 use bank_core::{Desk, Effects, Work};
+use proof_note::Note;
 use std::mem;
 
 /// What a lane number holds: nothing, a loan, or one that is performed, with its effects.
@@ -16,24 +17,25 @@ pub(crate) enum Holding<L, S> {
     Performed(S, Effects),
 }
 
-/// A lane number of a group: what it holds, whether it has given anything back, and its passes.
-pub(crate) struct GroupSeat<L, S> {
+/// A lane number of a group: what it holds, whether it has given anything back, and its gate in the
+/// record of its passes.
+pub(crate) struct GroupSeat<'a, L, S, G> {
     pub(crate) lane: u32,
     pub(crate) holding: Holding<L, S>,
     pub(crate) gave_back: bool,
-    pub(crate) passes: Passes,
+    pub(crate) log: GateLog<'a, G>,
 }
 
-impl<L, S> GroupSeat<L, S> {
+impl<'a, L, S, G: Gate> GroupSeat<'a, L, S, G> {
     /// The seat of a lane that was lent nothing yet.
-    pub(crate) fn new(lane: u32) -> GroupSeat<L, S>
-        ensures { IsNewSeat lane result }
+    pub(crate) fn new(lane: u32, gate: &'a G) -> GroupSeat<'a, L, S, G>
+        ensures { IsNewSeat gate.now lane result }
     {
         GroupSeat {
             lane,
             holding: Holding::Nothing,
             gave_back: false,
-            passes: Passes::none(lane),
+            log: GateLog::new(gate, lane),
         }
     }
 
@@ -73,7 +75,7 @@ impl<L, S> GroupSeat<L, S> {
             lane: _,
             holding,
             gave_back: _,
-            passes: _,
+            log: _,
         } = self;
         match holding {
             Holding::Nothing => {}
@@ -89,22 +91,22 @@ fn performed<W: Work, D: Desk<W>, G: Gate>(
     desk: &D,
     pass: &D::Pass,
     lent: D::Lent,
-    passes: &mut Passes,
+    log: &mut GateLog<'_, G>,
     work: &W,
-    gate: &G,
 ) -> Holding<D::Lent, D::Spent>
     requires desk { D.is_of desk.now pass.now }
     requires told { (D.origin desk.now).told ≡ W.told work.now }
     requires of { (D.lent lent).origin ≡ D.origin desk.now }
-    ensures once { HasPassedOnce (G.is_passed gate.now) passes.old (D.lent lent).position
-        passes.new }
+    ensures gate { log.new.gate ≡ log.old.gate }
+    ensures once { HasPassedOnce (G.is_passed log.old.gate.now) log.old.passes
+        (D.lent lent).position log.new.passes }
     ensures some { result ≢ Nothing }
-    ensures passed { IsPassed (G.is_passed gate.now) D.spent result passes.new }
+    ensures passed { IsPassed (G.is_passed log.old.gate.now) D.spent result log.new.passes }
     ensures holding { (lane : ℕ) (seen : List Event)
         → IsHeldBy (D.origin desk.now) lane seen (D.lent lent)
         → IsHolding D.lent D.spent W.job (D.origin desk.now) result lane seen }
 {
-    passes.pass(gate, desk.position(&lent));
+    log.pass(desk.position(&lent));
     match desk.perform(pass, lent, work) {
         Ok((spent, effects)) => Holding::Performed(spent, effects),
         Err(kept) => Holding::Loan(kept),
@@ -115,9 +117,9 @@ fn performed<W: Work, D: Desk<W>, G: Gate>(
 fn perform<W: Work, D: Desk<W>, G: Gate>(
     desk: &D,
     pass: &D::Pass,
-    seat: &mut GroupSeat<D::Lent, D::Spent>,
+    seat: &mut GroupSeat<'_, D::Lent, D::Spent, G>,
     work: &W,
-    gate: &G,
+    gate: &Note<G>,
 )
     requires desk { D.is_of desk.now pass.now }
     requires told { (D.origin desk.now).told ≡ W.told work.now }
@@ -126,16 +128,16 @@ fn perform<W: Work, D: Desk<W>, G: Gate>(
     ensures gave_back { seat.new.gave_back ≡ seat.old.gave_back }
     ensures empty { IsEmpty seat.old → IsEmpty seat.new }
     ensures some { IsEmpty seat.new → IsEmpty seat.old }
-    ensures passes { PassesFor (G.is_passed gate.now) D.lent seat.old.holding seat.old.passes
-        seat.new.passes }
+    ensures passes { PassesFor (G.is_passed seat.old.log.gate.now) D.lent seat.old.holding
+        seat.old.log.passes seat.new.log.passes }
     ensures stays { (seen : List Event)
-        → IsSeatOf D.lent D.spent W.job (D.origin desk.now) (G.is_passed gate.now) seat.old seen
-        → IsSeatOf D.lent D.spent W.job (D.origin desk.now) (G.is_passed gate.now) seat.new seen }
+        → IsSeatOf D.lent D.spent G.is_passed W.job (D.origin desk.now) (G.is_passed gate.now.value) seat.old seen
+        → IsSeatOf D.lent D.spent G.is_passed W.job (D.origin desk.now) (G.is_passed gate.now.value) seat.new seen }
 {
     match seat.take() {
         Holding::Nothing => {}
         Holding::Loan(loan) => {
-            let holding = performed(desk, pass, loan, &mut seat.passes, work, gate);
+            let holding = performed(desk, pass, loan, &mut seat.log, work);
             seat.hold(holding);
         }
         Holding::Performed(spent, effects) => seat.hold(Holding::Performed(spent, effects)),
@@ -147,9 +149,9 @@ fn perform<W: Work, D: Desk<W>, G: Gate>(
 pub(crate) fn perform_all<W: Work, D: Desk<W>, G: Gate>(
     desk: &D,
     pass: &D::Pass,
-    seats: &mut [GroupSeat<D::Lent, D::Spent>],
+    seats: &mut [GroupSeat<'_, D::Lent, D::Spent, G>],
     work: &W,
-    gate: &G,
+    gate: &Note<G>,
 )
     requires desk { D.is_of desk.now pass.now }
     requires told { (D.origin desk.now).told ≡ W.told work.now }
@@ -159,11 +161,11 @@ pub(crate) fn perform_all<W: Work, D: Desk<W>, G: Gate>(
     ensures same { seat_lanes seats.new ≡ seat_lanes seats.old }
     ensures kept { All HasKept seats.new }
     ensures filled { AreFilledFrom 0 seats.new }
-    ensures passes { PassForEach (G.is_passed gate.now) D.lent seats.old seats.new }
+    ensures passes { PassForEach G.is_passed D.lent seats.old seats.new }
     ensures stays { (lanes : List ℕ) (seen : List Event)
-        → AreSeats D.lent D.spent W.job (D.origin desk.now) (G.is_passed gate.now) lanes
+        → AreSeats D.lent D.spent G.is_passed W.job (D.origin desk.now) (G.is_passed gate.now.value) lanes
         seats.old seen
-        → AreSeats D.lent D.spent W.job (D.origin desk.now) (G.is_passed gate.now) lanes
+        → AreSeats D.lent D.spent G.is_passed W.job (D.origin desk.now) (G.is_passed gate.now.value) lanes
         seats.new seen }
 {
     for at in 0..seats.len() {
@@ -175,7 +177,7 @@ pub(crate) fn perform_all<W: Work, D: Desk<W>, G: Gate>(
 }
 
 /// Leaves seats that hold nothing.
-pub(crate) fn leave_group<L, S>(mut seats: Vec<GroupSeat<L, S>>)
+pub(crate) fn leave_group<L, S, G: Gate>(mut seats: Vec<GroupSeat<'_, L, S, G>>)
     requires { All IsEmpty seats.items }
 {
     while let Some(seat) = seats.pop() {

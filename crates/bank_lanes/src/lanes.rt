@@ -9,10 +9,11 @@ ghost use Rattle.bank_lanes.specs.declared.turns.Company.TheVariants.{Alone};
 ghost use Rattle.bank_lanes.specs.Groups.{AreSeats, EndsWell, HasManyAfter, IsFree, IsNewSeat, seat_lanes};
 ghost use Rattle.bank_lanes.specs.Passes.{AreItsOwn, CommitBehind, HoldsNothing, IsIdle, KeepsTo, StaysBehind, StaysFree, WentOn, Widened};
 
-use crate::gate::Gate;
+use crate::gate::{Gate, noted};
 use crate::group::{GroupSeat, leave_group};
 use crate::turns::{Company, LaneEnd, run_group};
 use bank_core::{Desk, Split, Work};
+use proof_note::Note;
 use side_by_side::for_each_mut;
 use sol_base::OutOfMemory;
 use std::alloc::{AllocFailed, Global};
@@ -30,52 +31,51 @@ pub struct Lanes<'a, G> {
 }
 
 /// A seat for a lane, with room for so many in all.
-fn first_seat<L, S>(
+fn first_seat<'a, L, S, G: Gate>(
     alloc: Global,
     lane: u32,
     width: u32,
-) -> Result<Vec<GroupSeat<L, S>>, OutOfMemory>
+    gate: &'a G,
+) -> Result<Vec<GroupSeat<'a, L, S, G>>, OutOfMemory>
     requires some { 1 ≤ width }
     ensures one { IfOk result (λ seats. length seats.items ≡ 1) }
-    ensures new { IfOk result (λ seats. All (IsNewSeat lane) seats.items) }
+    ensures new { IfOk result (λ seats. All (IsNewSeat gate.now lane) seats.items) }
     ensures room { IfOk result (λ seats. width ≤ vec_capacity seats) }
 {
     let mut seats = Vec::with_capacity(alloc, width as usize)?;
-    seats.push_reserved(GroupSeat::new(lane));
+    seats.push_reserved(GroupSeat::new(lane, gate));
     Ok(seats)
 }
 
 /// Draws further lanes for a pass, up to so many in all, each with a seat.
-fn widen<W: Work, D: Desk<W>, G: Gate, R: Wait>(
+fn widen<'a, W: Work, D: Desk<W>, G: Gate, R: Wait>(
     rt: &R,
     desk: &D,
     pass: &mut D::Pass,
-    seats: &mut Vec<GroupSeat<D::Lent, D::Spent>>,
+    seats: &mut Vec<GroupSeat<'a, D::Lent, D::Spent, G>>,
     width: u32,
-    gate: &G,
+    gate: &'a G,
 )
     requires desk { D.is_of desk.now pass.old }
     requires one { length seats.old.items ≡ 1 }
     requires room { width ≤ vec_capacity seats.old }
-    requires seats { AreSeats D.lent D.spent W.job (D.origin desk.now) (G.is_passed gate.now)
+    requires seats { AreSeats D.lent D.spent G.is_passed W.job (D.origin desk.now) (G.is_passed gate.now)
         (D.lanes_of pass.old) seats.old.items (D.view pass.old).seen }
     requires free { All IsFree seats.old.items }
     ensures desk { D.is_of desk.now pass.new }
     ensures some { 0 < length seats.new.items }
-    ensures seats { AreSeats D.lent D.spent W.job (D.origin desk.now) (G.is_passed gate.now)
+    ensures seats { AreSeats D.lent D.spent G.is_passed W.job (D.origin desk.now) (G.is_passed gate.now)
         (D.lanes_of pass.new) seats.new.items (D.view pass.new).seen }
     ensures free { All IsFree seats.new.items }
     ensures wider { Widened (G.is_passed gate.now) (D.lanes_of pass.old) (D.view pass.old)
         (D.lanes_of pass.new) (D.view pass.new) }
 {
-    // The contract alone asks for the gate: no event is one of a lane.
-    let _gate = gate;
     for _ in 1..width {
         match desk.split(rt, pass) {
             Split::Made(made) => {
                 let lane = desk.lane(&made);
                 desk.join(pass, made);
-                seats.push_reserved(GroupSeat::new(lane));
+                seats.push_reserved(GroupSeat::new(lane, gate));
             }
             Split::AllMade => return,
         }
@@ -87,7 +87,7 @@ fn run_seats<W: Work, D: Desk<W>, G: Gate, R: Wait>(
     rt: &R,
     desk: &D,
     pass: &mut D::Pass,
-    seats: &mut Vec<GroupSeat<D::Lent, D::Spent>>,
+    seats: &mut Vec<GroupSeat<'_, D::Lent, D::Spent, G>>,
     work: &W,
     company: Company,
     gate: &G,
@@ -95,7 +95,7 @@ fn run_seats<W: Work, D: Desk<W>, G: Gate, R: Wait>(
     requires told { (D.origin desk.now).told ≡ W.told work.now }
     requires some { 0 < length seats.old.items }
     requires desk { D.is_of desk.now pass.old }
-    requires seats { AreSeats D.lent D.spent W.job (D.origin desk.now) (G.is_passed gate.now)
+    requires seats { AreSeats D.lent D.spent G.is_passed W.job (D.origin desk.now) (G.is_passed gate.now)
         (D.lanes_of pass.old) seats.old.items (D.view pass.old).seen }
     requires free { All IsFree seats.old.items }
     ensures desk { D.is_of desk.now pass.new }
@@ -103,12 +103,13 @@ fn run_seats<W: Work, D: Desk<W>, G: Gate, R: Wait>(
     ensures keeps { KeepsTo (G.is_passed gate.now) (seat_lanes seats.old.items)
         (D.lanes_of pass.old) (D.view pass.old) (D.lanes_of pass.new) (D.view pass.new) }
     ensures same { seat_lanes seats.new.items ≡ seat_lanes seats.old.items }
-    ensures seats { AreSeats D.lent D.spent W.job (D.origin desk.now) (G.is_passed gate.now)
+    ensures seats { AreSeats D.lent D.spent G.is_passed W.job (D.origin desk.now) (G.is_passed gate.now)
         (D.lanes_of pass.new) seats.new.items (D.view pass.new).seen }
     ensures end { EndsWell company W.job (D.origin desk.now) result seats.new.items
         (D.view pass.new) }
 {
-    run_group(rt, desk, pass, seats.as_mut_slice(), work, company, gate)
+    let note = noted(gate);
+    run_group(rt, desk, pass, seats.as_mut_slice(), work, company, &note)
 }
 
 /// Runs the lanes of a thread: its pass draws further ones, so many in all, each gets a seat, and the
@@ -141,7 +142,7 @@ fn run_thread<W: Work, D: Desk<W>, G: Gate, R: Wait>(
         Company::Alone => 1,
         Company::Others => lanes.per_thread.max(1),
     };
-    match first_seat(lanes.alloc, desk.lane(pass), width) {
+    match first_seat(lanes.alloc, desk.lane(pass), width, lanes.gate) {
         Ok(mut seats) => {
             widen(rt, desk, pass, &mut seats, width, lanes.gate);
             let end = run_seats(rt, desk, pass, &mut seats, work, company, lanes.gate);
@@ -181,7 +182,8 @@ fn make_passes<W: Work, D: Desk<W>, G: Gate, R: Wait>(
             Split::Made(made) => {
                 if let Err(failed) = passes.push(made) {
                     let AllocFailed { value: made } = failed;
-                    join_idle(desk, pass, made, lanes.gate);
+                    let note = noted(lanes.gate);
+                    join_idle(desk, pass, made, &note);
                     return;
                 }
             }
@@ -191,15 +193,15 @@ fn make_passes<W: Work, D: Desk<W>, G: Gate, R: Wait>(
 }
 
 /// Joins a pass that holds nothing.
-fn join_idle<W: Work, D: Desk<W>, G: Gate>(desk: &D, pass: &mut D::Pass, other: D::Pass, gate: &G)
+fn join_idle<W: Work, D: Desk<W>, G: Gate>(desk: &D, pass: &mut D::Pass, other: D::Pass, gate: &Note<G>)
     requires desk { D.is_of desk.now pass.old }
     requires other { D.is_of desk.now other }
     requires free { HoldsNothing (D.lanes_of other) (D.view other) }
-    requires behind { CommitBehind (G.is_passed gate.now) (D.lanes_of other) (D.view other) }
+    requires behind { CommitBehind (G.is_passed gate.now.value) (D.lanes_of other) (D.view other) }
     ensures desk { D.is_of desk.now pass.new }
     ensures free { StaysFree (D.lanes_of pass.old) (D.view pass.old) (D.lanes_of pass.new)
         (D.view pass.new) }
-    ensures behind { StaysBehind (G.is_passed gate.now) (D.lanes_of pass.old) (D.view pass.old)
+    ensures behind { StaysBehind (G.is_passed gate.now.value) (D.lanes_of pass.old) (D.view pass.old)
         (D.lanes_of pass.new) (D.view pass.new) }
     ensures stays { Stays (D.view pass.old) (D.view pass.new) }
     ensures mine { (D.view pass.new).mine ≡ (D.view pass.old).mine }
@@ -311,17 +313,17 @@ fn join_all<W: Work, D: Desk<W>, G: Gate>(
     desk: &D,
     pass: &mut D::Pass,
     mut passes: Vec<D::Pass>,
-    gate: &G,
+    gate: &Note<G>,
 )
     requires desk { D.is_of desk.now pass.old }
     requires free { holds (D.view pass.old).mine ≡ None }
     requires passes { All (λ p. D.is_of desk.now p × HoldsNothing (D.lanes_of p) (D.view p)
-        × CommitBehind (G.is_passed gate.now) (D.lanes_of p) (D.view p)) passes.items }
+        × CommitBehind (G.is_passed gate.now.value) (D.lanes_of p) (D.view p)) passes.items }
     ensures desk { D.is_of desk.now pass.new }
     ensures on { WentOn (D.view pass.old) (D.view pass.new) }
     ensures free { StaysFree (D.lanes_of pass.old) (D.view pass.old) (D.lanes_of pass.new)
         (D.view pass.new) }
-    ensures behind { StaysBehind (G.is_passed gate.now) (D.lanes_of pass.old) (D.view pass.old)
+    ensures behind { StaysBehind (G.is_passed gate.now.value) (D.lanes_of pass.old) (D.view pass.old)
         (D.lanes_of pass.new) (D.view pass.new) }
     ensures mine { (D.view pass.new).mine ≡ (D.view pass.old).mine }
 {
@@ -354,7 +356,8 @@ fn run_many<W: Work + Sync, D: Desk<W>, G: Gate, R: Threads + Wait + Sync>(
     let mut passes = Vec::new(lanes.alloc);
     make_passes(rt, desk, pass, &mut passes, lanes);
     let end = run_all(rt, desk, pass, passes.as_mut_slice(), work, lanes);
-    join_all(desk, pass, passes, lanes.gate);
+    let note = noted(lanes.gate);
+    join_all(desk, pass, passes, &note);
     if end == LaneEnd::GaveBack {
         return Err(OutOfMemory);
     }

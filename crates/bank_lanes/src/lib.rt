@@ -9,6 +9,6 @@ mod seats;
 mod turns;
 mod waves;
 
-pub use gate::{Gate, OpenGate, Passes};
+pub use gate::{Gate, GateLog, OpenGate, Passes};
 pub use lanes::{Lanes, run_groups, run_lanes};
 pub use waves::run_waves;

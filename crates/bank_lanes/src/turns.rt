@@ -10,6 +10,7 @@ ghost use Rattle.bank_lanes.specs.Groups.{AreFilledFrom, AreSeats, EndsWell, Has
 use crate::gate::Gate;
 use crate::group::{GroupSeat, Holding, perform_all};
 use bank_core::{Desk, Lend, Work};
+use proof_note::Note;
 use std::sync::Wait;
 use std::thread;
 
@@ -48,20 +49,20 @@ pub(crate) enum Company {
 fn settle<W: Work, D: Desk<W>, G: Gate>(
     desk: &D,
     turn: &mut D::Turn,
-    seat: &mut GroupSeat<D::Lent, D::Spent>,
-    gate: &G,
+    seat: &mut GroupSeat<'_, D::Lent, D::Spent, G>,
+    gate: &Note<G>,
 )
     requires desk { D.is_turn_of desk.now turn.old }
     requires own { AreItsOwn (D.turn_view turn.old) }
     requires lane { is_one_of (D.turn_lanes turn.old) seat.old.lane ≡ true }
-    requires seat { IsSeatOf D.lent D.spent W.job (D.origin desk.now) (G.is_passed gate.now)
+    requires seat { IsSeatOf D.lent D.spent G.is_passed W.job (D.origin desk.now) (G.is_passed gate.now.value)
         seat.old (D.turn_view turn.old).seen }
     ensures desk { D.is_turn_of desk.now turn.new }
     ensures lanes { D.turn_lanes turn.new ≡ D.turn_lanes turn.old }
     ensures lane { seat.new.lane ≡ seat.old.lane }
-    ensures step { StepsOn (G.is_passed gate.now) seat.old.lane (D.turn_view turn.old)
+    ensures step { StepsOn (G.is_passed gate.now.value) seat.old.lane (D.turn_view turn.old)
         (D.turn_view turn.new) }
-    ensures seat { IsSeatOf D.lent D.spent W.job (D.origin desk.now) (G.is_passed gate.now) seat.new
+    ensures seat { IsSeatOf D.lent D.spent G.is_passed W.job (D.origin desk.now) (G.is_passed gate.now.value) seat.new
         (D.turn_view turn.new).seen }
     ensures empty { IsEmpty seat.new }
 {
@@ -82,21 +83,21 @@ fn settle<W: Work, D: Desk<W>, G: Gate>(
 fn settle_all<W: Work, D: Desk<W>, G: Gate>(
     desk: &D,
     turn: &mut D::Turn,
-    seats: &mut [GroupSeat<D::Lent, D::Spent>],
-    gate: &G,
+    seats: &mut [GroupSeat<'_, D::Lent, D::Spent, G>],
+    gate: &Note<G>,
 ) -> bool
     requires desk { D.is_turn_of desk.now turn.old }
     requires own { AreItsOwn (D.turn_view turn.old) }
-    requires seats { AreSeats D.lent D.spent W.job (D.origin desk.now) (G.is_passed gate.now)
+    requires seats { AreSeats D.lent D.spent G.is_passed W.job (D.origin desk.now) (G.is_passed gate.now.value)
         (D.turn_lanes turn.old) seats.old (D.turn_view turn.old).seen }
     requires kept { All HasKept seats.old }
     requires filled { AreFilledFrom 0 seats.old }
     ensures desk { D.is_turn_of desk.now turn.new }
     ensures own { AreItsOwn (D.turn_view turn.new) }
-    ensures keeps { KeepsTo (G.is_passed gate.now) (seat_lanes seats.old) (D.turn_lanes turn.old)
+    ensures keeps { KeepsTo (G.is_passed gate.now.value) (seat_lanes seats.old) (D.turn_lanes turn.old)
         (D.turn_view turn.old) (D.turn_lanes turn.new) (D.turn_view turn.new) }
     ensures same { seat_lanes seats.new ≡ seat_lanes seats.old }
-    ensures seats { AreSeats D.lent D.spent W.job (D.origin desk.now) (G.is_passed gate.now)
+    ensures seats { AreSeats D.lent D.spent G.is_passed W.job (D.origin desk.now) (G.is_passed gate.now.value)
         (D.turn_lanes turn.new) seats.new (D.turn_view turn.new).seen }
     ensures empty { All IsEmpty seats.new }
     ensures kept { result ≡ true → All HasKept seats.new }
@@ -118,21 +119,21 @@ fn settle_all<W: Work, D: Desk<W>, G: Gate>(
 fn lend_to<W: Work, D: Desk<W>, G: Gate>(
     desk: &D,
     turn: &mut D::Turn,
-    seat: &mut GroupSeat<D::Lent, D::Spent>,
-    gate: &G,
+    seat: &mut GroupSeat<'_, D::Lent, D::Spent, G>,
+    gate: &Note<G>,
 ) -> Found
     requires desk { D.is_turn_of desk.now turn.old }
     requires own { AreItsOwn (D.turn_view turn.old) }
     requires lane { is_one_of (D.turn_lanes turn.old) seat.old.lane ≡ true }
-    requires seat { IsSeatOf D.lent D.spent W.job (D.origin desk.now) (G.is_passed gate.now)
+    requires seat { IsSeatOf D.lent D.spent G.is_passed W.job (D.origin desk.now) (G.is_passed gate.now.value)
         seat.old (D.turn_view turn.old).seen }
     requires free { IsFree seat.old }
     ensures desk { D.is_turn_of desk.now turn.new }
     ensures lanes { D.turn_lanes turn.new ≡ D.turn_lanes turn.old }
     ensures lane { seat.new.lane ≡ seat.old.lane }
-    ensures step { StepsOn (G.is_passed gate.now) seat.old.lane (D.turn_view turn.old)
+    ensures step { StepsOn (G.is_passed gate.now.value) seat.old.lane (D.turn_view turn.old)
         (D.turn_view turn.new) }
-    ensures seat { IsSeatOf D.lent D.spent W.job (D.origin desk.now) (G.is_passed gate.now) seat.new
+    ensures seat { IsSeatOf D.lent D.spent G.is_passed W.job (D.origin desk.now) (G.is_passed gate.now.value) seat.new
         (D.turn_view turn.new).seen }
     ensures kept { HasKept seat.new }
     ensures lent { result ≡ FoundLoan → IsLent seat.new }
@@ -157,24 +158,24 @@ fn lend_to<W: Work, D: Desk<W>, G: Gate>(
 fn lend_rest<W: Work, D: Desk<W>, G: Gate>(
     desk: &D,
     turn: &mut D::Turn,
-    seats: &mut [GroupSeat<D::Lent, D::Spent>],
+    seats: &mut [GroupSeat<'_, D::Lent, D::Spent, G>],
     most: usize,
-    gate: &G,
+    gate: &Note<G>,
 )
     requires most { most ≤ length seats.old }
     requires desk { D.is_turn_of desk.now turn.old }
     requires own { AreItsOwn (D.turn_view turn.old) }
-    requires seats { AreSeats D.lent D.spent W.job (D.origin desk.now) (G.is_passed gate.now)
+    requires seats { AreSeats D.lent D.spent G.is_passed W.job (D.origin desk.now) (G.is_passed gate.now.value)
         (D.turn_lanes turn.old) seats.old (D.turn_view turn.old).seen }
     requires kept { All HasKept seats.old }
     requires first { AllWithin IsLent seats.old 0 1 }
     requires empty { AllWithin IsEmpty seats.old 1 (length seats.old) }
     ensures desk { D.is_turn_of desk.now turn.new }
     ensures own { AreItsOwn (D.turn_view turn.new) }
-    ensures keeps { KeepsTo (G.is_passed gate.now) (seat_lanes seats.old) (D.turn_lanes turn.old)
+    ensures keeps { KeepsTo (G.is_passed gate.now.value) (seat_lanes seats.old) (D.turn_lanes turn.old)
         (D.turn_view turn.old) (D.turn_lanes turn.new) (D.turn_view turn.new) }
     ensures same { seat_lanes seats.new ≡ seat_lanes seats.old }
-    ensures seats { AreSeats D.lent D.spent W.job (D.origin desk.now) (G.is_passed gate.now)
+    ensures seats { AreSeats D.lent D.spent G.is_passed W.job (D.origin desk.now) (G.is_passed gate.now.value)
         (D.turn_lanes turn.new) seats.new (D.turn_view turn.new).seen }
     ensures kept { All HasKept seats.new }
     ensures filled { AreFilledFrom 0 seats.new }
@@ -204,7 +205,7 @@ fn share_of(ready: u32, groups: usize, seats: usize) -> usize
 }
 
 /// The compute units of what the seats hold performed, up to the first that holds nothing.
-fn units_of<L, S>(seats: &[GroupSeat<L, S>]) -> u64 {
+fn units_of<L, S, G>(seats: &[GroupSeat<'_, L, S, G>]) -> u64 {
     let mut units: u64 = 0;
     for seat in seats {
         match &seat.holding {
@@ -242,21 +243,21 @@ fn holds_off(company: Company, settles: bool, units: u64, ready: u32, groups: us
 fn lend_share<W: Work, D: Desk<W>, G: Gate>(
     desk: &D,
     turn: &mut D::Turn,
-    seats: &mut [GroupSeat<D::Lent, D::Spent>],
-    gate: &G,
+    seats: &mut [GroupSeat<'_, D::Lent, D::Spent, G>],
+    gate: &Note<G>,
 ) -> Found
     requires some { 0 < length seats.old }
     requires desk { D.is_turn_of desk.now turn.old }
     requires own { AreItsOwn (D.turn_view turn.old) }
-    requires seats { AreSeats D.lent D.spent W.job (D.origin desk.now) (G.is_passed gate.now)
+    requires seats { AreSeats D.lent D.spent G.is_passed W.job (D.origin desk.now) (G.is_passed gate.now.value)
         (D.turn_lanes turn.old) seats.old (D.turn_view turn.old).seen }
     requires free { All IsFree seats.old }
     ensures desk { D.is_turn_of desk.now turn.new }
     ensures own { AreItsOwn (D.turn_view turn.new) }
-    ensures keeps { KeepsTo (G.is_passed gate.now) (seat_lanes seats.old) (D.turn_lanes turn.old)
+    ensures keeps { KeepsTo (G.is_passed gate.now.value) (seat_lanes seats.old) (D.turn_lanes turn.old)
         (D.turn_view turn.old) (D.turn_lanes turn.new) (D.turn_view turn.new) }
     ensures same { seat_lanes seats.new ≡ seat_lanes seats.old }
-    ensures seats { AreSeats D.lent D.spent W.job (D.origin desk.now) (G.is_passed gate.now)
+    ensures seats { AreSeats D.lent D.spent G.is_passed W.job (D.origin desk.now) (G.is_passed gate.now.value)
         (D.turn_lanes turn.new) seats.new (D.turn_view turn.new).seen }
     ensures filled { AreFilledFrom 0 seats.new }
     ensures found { MatchFound result (All HasKept seats.new) ⊥
@@ -279,24 +280,24 @@ fn lend_share<W: Work, D: Desk<W>, G: Gate>(
 fn under_turn<W: Work, D: Desk<W>, G: Gate>(
     desk: &D,
     turn: &mut D::Turn,
-    seats: &mut [GroupSeat<D::Lent, D::Spent>],
+    seats: &mut [GroupSeat<'_, D::Lent, D::Spent, G>],
     units: u64,
     company: Company,
-    gate: &G,
+    gate: &Note<G>,
 ) -> Found
     requires some { 0 < length seats.old }
     requires desk { D.is_turn_of desk.now turn.old }
     requires own { AreItsOwn (D.turn_view turn.old) }
-    requires seats { AreSeats D.lent D.spent W.job (D.origin desk.now) (G.is_passed gate.now)
+    requires seats { AreSeats D.lent D.spent G.is_passed W.job (D.origin desk.now) (G.is_passed gate.now.value)
         (D.turn_lanes turn.old) seats.old (D.turn_view turn.old).seen }
     requires kept { All HasKept seats.old }
     requires filled { AreFilledFrom 0 seats.old }
     ensures desk { D.is_turn_of desk.now turn.new }
     ensures own { AreItsOwn (D.turn_view turn.new) }
-    ensures keeps { KeepsTo (G.is_passed gate.now) (seat_lanes seats.old) (D.turn_lanes turn.old)
+    ensures keeps { KeepsTo (G.is_passed gate.now.value) (seat_lanes seats.old) (D.turn_lanes turn.old)
         (D.turn_view turn.old) (D.turn_lanes turn.new) (D.turn_view turn.new) }
     ensures same { seat_lanes seats.new ≡ seat_lanes seats.old }
-    ensures seats { AreSeats D.lent D.spent W.job (D.origin desk.now) (G.is_passed gate.now)
+    ensures seats { AreSeats D.lent D.spent G.is_passed W.job (D.origin desk.now) (G.is_passed gate.now.value)
         (D.turn_lanes turn.new) seats.new (D.turn_view turn.new).seen }
     ensures filled { AreFilledFrom 0 seats.new }
     ensures way { company ≡ Others → All IsEmpty seats.old → result ≢ FoundPlenty }
@@ -322,22 +323,22 @@ fn take_turn<W: Work, D: Desk<W>, G: Gate, R: Wait>(
     rt: &R,
     desk: &D,
     pass: &mut D::Pass,
-    seats: &mut [GroupSeat<D::Lent, D::Spent>],
+    seats: &mut [GroupSeat<'_, D::Lent, D::Spent, G>],
     company: Company,
-    gate: &G,
+    gate: &Note<G>,
 ) -> Found
     requires some { 0 < length seats.old }
     requires desk { D.is_of desk.now pass.old }
-    requires seats { AreSeats D.lent D.spent W.job (D.origin desk.now) (G.is_passed gate.now)
+    requires seats { AreSeats D.lent D.spent G.is_passed W.job (D.origin desk.now) (G.is_passed gate.now.value)
         (D.lanes_of pass.old) seats.old (D.view pass.old).seen }
     requires kept { All HasKept seats.old }
     requires filled { AreFilledFrom 0 seats.old }
     ensures desk { D.is_of desk.now pass.new }
     ensures own { AreItsOwn (D.view pass.new) }
-    ensures keeps { KeepsTo (G.is_passed gate.now) (seat_lanes seats.old) (D.lanes_of pass.old)
+    ensures keeps { KeepsTo (G.is_passed gate.now.value) (seat_lanes seats.old) (D.lanes_of pass.old)
         (D.view pass.old) (D.lanes_of pass.new) (D.view pass.new) }
     ensures same { seat_lanes seats.new ≡ seat_lanes seats.old }
-    ensures seats { AreSeats D.lent D.spent W.job (D.origin desk.now) (G.is_passed gate.now)
+    ensures seats { AreSeats D.lent D.spent G.is_passed W.job (D.origin desk.now) (G.is_passed gate.now.value)
         (D.lanes_of pass.new) seats.new (D.view pass.new).seen }
     ensures filled { AreFilledFrom 0 seats.new }
     ensures way { company ≡ Others → All IsEmpty seats.old → result ≢ FoundPlenty }
@@ -361,23 +362,23 @@ pub(crate) fn run_group<W: Work, D: Desk<W>, G: Gate, R: Wait>(
     rt: &R,
     desk: &D,
     pass: &mut D::Pass,
-    seats: &mut [GroupSeat<D::Lent, D::Spent>],
+    seats: &mut [GroupSeat<'_, D::Lent, D::Spent, G>],
     work: &W,
     company: Company,
-    gate: &G,
+    gate: &Note<G>,
 ) -> LaneEnd
     requires told { (D.origin desk.now).told ≡ W.told work.now }
     requires some { 0 < length seats.old }
     requires desk { D.is_of desk.now pass.old }
-    requires seats { AreSeats D.lent D.spent W.job (D.origin desk.now) (G.is_passed gate.now)
+    requires seats { AreSeats D.lent D.spent G.is_passed W.job (D.origin desk.now) (G.is_passed gate.now.value)
         (D.lanes_of pass.old) seats.old (D.view pass.old).seen }
     requires free { All IsFree seats.old }
     ensures desk { D.is_of desk.now pass.new }
     ensures own { AreItsOwn (D.view pass.new) }
-    ensures keeps { KeepsTo (G.is_passed gate.now) (seat_lanes seats.old) (D.lanes_of pass.old)
+    ensures keeps { KeepsTo (G.is_passed gate.now.value) (seat_lanes seats.old) (D.lanes_of pass.old)
         (D.view pass.old) (D.lanes_of pass.new) (D.view pass.new) }
     ensures same { seat_lanes seats.new ≡ seat_lanes seats.old }
-    ensures seats { AreSeats D.lent D.spent W.job (D.origin desk.now) (G.is_passed gate.now)
+    ensures seats { AreSeats D.lent D.spent G.is_passed W.job (D.origin desk.now) (G.is_passed gate.now.value)
         (D.lanes_of pass.new) seats.new (D.view pass.new).seen }
     ensures end { EndsWell company W.job (D.origin desk.now) result seats.new (D.view pass.new) }
 {

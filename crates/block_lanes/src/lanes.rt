@@ -5,7 +5,7 @@ ghost use Rattle.sol_base.specs.Limits.{max_transactions};
 ghost use Rattle.tx_report.specs.declared.outcome.Outcome.{Outcome as OutcomeValue};
 ghost use Rattle.bank_core.specs.Ends.{outcomes_at_end};
 ghost use Rattle.bank_core.specs.Origins.{AllDoneAfter};
-ghost use Rattle.bank_lanes.specs.Gates.{HasPassedGranted};
+ghost use Rattle.bank_lanes.specs.Gates.{HasNoPasses, HasPassedGranted};
 ghost use Rattle.bank_lanes.specs.Passes.{IsIdle};
 ghost use Rattle.bank_shared.specs.Face.{desk_origin, IsPassOf, IsReaderOf, view_of};
 ghost use Rattle.tx_report.specs.Outcomes.{IsSmallOutcome};
@@ -14,7 +14,7 @@ ghost use Rattle.block_end.specs.RecordPrefix.{IsBegun};
 
 use crate::reading::read_prefix;
 use bank_core::{Core, Ended, SharedOutcome, Take, Work};
-use bank_lanes::{Gate, Lanes, Passes, run_groups};
+use bank_lanes::{Gate, GateLog, Lanes, run_groups};
 use bank_shared::{Pass, SharedDesk};
 use block_end::{Crew, LANE_NUMBERS, RecordParts, RecordPrefix, begin_record};
 use sol_base::{Blob, Items, OutOfMemory};
@@ -22,27 +22,26 @@ use std::alloc::Global;
 use std::sync::Wait;
 use std::thread::{Threads, join};
 
-/// Takes, passes the gate, performs and commits on the one lane of a core, until all positions are
-/// done, and returns the record of its passes. Where the work finds no memory the loan goes back, and
-/// the run ends.
+/// Takes, passes the gate in its record, performs and commits on the one lane of a core, until all
+/// positions are done. Where the work finds no memory the loan goes back, and the run ends.
 fn run_alone<W: Work, G: Gate>(
     core: &mut Core<W>,
     work: &W,
-    gate: &G,
-) -> Result<Passes, OutOfMemory>
+    log: &mut GateLog<'_, G>,
+) -> Result<(), OutOfMemory>
     requires one { core.old.lanes ≡ 1 }
     requires told { core.old.origin.value.told ≡ W.told work.now }
     requires journal { core.old.journal.items ≡ [] }
+    requires none { HasNoPasses 0 log.old.passes }
     ensures origin { core.new.origin.value ≡ core.old.origin.value }
     ensures done { OnOk result (AllDoneAfter W.job core.new.origin.value core.new.journal.items) }
-    ensures passed { IfOk result
-        (HasPassedGranted (G.is_passed gate.now) 0 core.new.journal.items) }
+    ensures passed { OnOk result (HasPassedGranted (G.is_passed log.old.gate.now) 0
+        core.new.journal.items log.new.passes) }
 {
-    let mut passes = Passes::none(0);
     'turns: loop {
         match core.take(0) {
             Take::Loan(loan) => {
-                passes.pass(gate, loan.position());
+                log.pass(loan.position());
                 match work.perform(loan.position(), loan.values()) {
                     Ok(effects) => core.commit(loan, effects),
                     Err(OutOfMemory) => {
@@ -52,7 +51,7 @@ fn run_alone<W: Work, G: Gate>(
                 }
             }
             Take::NotNow { held: _ } => unreachable!(),
-            Take::Finished => return Ok(passes),
+            Take::Finished => return Ok(()),
             Take::OutOfMemory => return Err(OutOfMemory),
         }
     }
@@ -199,7 +198,7 @@ pub fn run_work_alone<W: Work, G: Gate>(
         end.1 ≡ outcomes_at_end W.job core.origin.value) }
     ensures begun { IfOk result (λ end. IsBegun parts.entry end.1 end.2) }
 {
-    run_alone(&mut core, work, gate)?;
+    run_alone(&mut core, work, &mut GateLog::new(gate, 0))?;
     let (ended, outcomes) = core.part()?;
     Ok((ended, outcomes, begin_record(parts, room)?))
 }

@@ -11,7 +11,7 @@ pub loop-other-preserved : goal.loop-other-preserved
 loop-other-preserved g c =
     let lanes = g.D.Desk.lanes_of in
     let view = g.D.Desk.view in
-    let gate = g.G.Gate.is_passed c.args.gate.now in
+    let gate = g.G.Gate.is_passed c.args.gate.now.value in
     let i = c.loop-other.invariant in
     let P : g.row.D-Pass.Denot → Type 0 = λ p. g.D.Desk.is_of c.args.desk.now p × HoldsNothing (g.D.Desk.lanes_of p) (g.D.Desk.view p) × CommitBehind gate (g.D.Desk.lanes_of p) (g.D.Desk.view p) in
     record {

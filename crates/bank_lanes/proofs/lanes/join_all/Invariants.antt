@@ -5,9 +5,9 @@ use Rattle.bank_lanes.proofs.lanes.join_all.Given as goal
 abbrev pub invariant-loop-other : goal.invariant-loop-other
 invariant-loop-other g l = record {
   desk : g.D.Desk.is_of l.desk l.pass;
-  passes : All (λ p. g.D.Desk.is_of l.desk p × HoldsNothing (g.D.Desk.lanes_of p) (g.D.Desk.view p) × CommitBehind (g.G.Gate.is_passed l.gate) (g.D.Desk.lanes_of p) (g.D.Desk.view p)) l.passes.items;
+  passes : All (λ p. g.D.Desk.is_of l.desk p × HoldsNothing (g.D.Desk.lanes_of p) (g.D.Desk.view p) × CommitBehind (g.G.Gate.is_passed l.gate.value) (g.D.Desk.lanes_of p) (g.D.Desk.view p)) l.passes.items;
   free : StaysFree (g.D.Desk.lanes_of l.initial.pass) (g.D.Desk.view l.initial.pass) (g.D.Desk.lanes_of l.pass) (g.D.Desk.view l.pass);
-  behind : StaysBehind (g.G.Gate.is_passed l.gate) (g.D.Desk.lanes_of l.initial.pass) (g.D.Desk.view l.initial.pass) (g.D.Desk.lanes_of l.pass) (g.D.Desk.view l.pass);
+  behind : StaysBehind (g.G.Gate.is_passed l.gate.value) (g.D.Desk.lanes_of l.initial.pass) (g.D.Desk.view l.initial.pass) (g.D.Desk.lanes_of l.pass) (g.D.Desk.view l.pass);
   on : WentOn (g.D.Desk.view l.initial.pass) (g.D.Desk.view l.pass);
   mine : (g.D.Desk.view l.pass).mine ≡ (g.D.Desk.view l.initial.pass).mine;
 }

@@ -11,7 +11,7 @@ returns-clause-free g c =
 
 pub returns-clause-behind : goal.returns-clause-behind
 returns-clause-behind g c =
-    behind_both (g.G.Gate.is_passed c.args.gate.now) (g.D.Desk.lanes_of c.args.pass.now)
+    behind_both (g.G.Gate.is_passed c.args.gate.now.value) (g.D.Desk.lanes_of c.args.pass.now)
     (g.D.Desk.lanes_of c.args.other) (g.D.Desk.lanes_of c.join.new.pass) (g.D.Desk.view c.args.pass.now)
     (g.D.Desk.view c.args.other) (g.D.Desk.view c.join.new.pass)
     c.join.ensures.both c.join.ensures.each c.join.ensures.each_other c.requires.behind

@@ -2,7 +2,7 @@ use Rattle.std.proofs.Common.{rules, All, ap, sym, subst, ◌∙◌}
 use base.Growing.{prefix_trans}
 use Rattle.std.proofs.lemmas.List.Elements.{All-push}
 use Rattle.bank_law.specs.History.{holds, returns}
-use Rattle.bank_lanes.specs.Passes.{CommitBehind, HoldsNothing, IsIdle}
+use Rattle.bank_lanes.specs.Passes.{CommitBehind, HoldsNothing, IsIdle, StaysBehind}
 use Rattle.bank_lanes.proofs.Behind.{behind_new, behind_none, behind_then}
 use Rattle.bank_lanes.proofs.Frees.{free_none, free_then, free_new}
 use Rattle.bank_lanes.proofs.lanes.make_passes.Goals as goal
@@ -67,7 +67,8 @@ returns-in-Err-clause-behind g c =
     behind_then gate (lanes c.args.pass.now) (lanes c.split.new.pass) (lanes c.join_idle.new.pass) (view c.args.pass.now) (view c.split.new.pass) (view c.join_idle.new.pass)
     (behind_then gate (lanes c.args.pass.now) (lanes c.loop.pass) (lanes c.split.new.pass) (view c.args.pass.now) (view c.loop.pass) (view c.split.new.pass) c.loop.invariant.behind
     (behind_none gate (lanes c.loop.pass) (lanes c.split.new.pass) (view c.loop.pass) (view c.split.new.pass) c.in-Made.ensures.same_lanes c.in-Made.ensures.each))
-    c.join_idle.ensures.behind
+    (subst (λ h. StaysBehind (g.G.Gate.is_passed h) (lanes c.split.new.pass) (view c.split.new.pass) (lanes c.join_idle.new.pass) (view c.join_idle.new.pass))
+    c.noted-note.ensures c.join_idle.ensures.behind)
 
 pub returns-in-AllMade-clause-behind : goal.returns-in-AllMade-clause-behind
 returns-in-AllMade-clause-behind g c =

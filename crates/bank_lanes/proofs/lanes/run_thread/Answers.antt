@@ -14,7 +14,7 @@ returns-in-Ok-clause-free g c =
     let v1 = g.D.Desk.view c.widen.new.pass in
     let v2 = g.D.Desk.view c.run_seats-end.new.pass in
     let r = c.run_seats-end.ensures in
-    let none = none_held g.D.Desk.lent g.D.Desk.spent g.W.Work.job (g.D.Desk.origin c.args.desk.now)
+    let none = none_held g.D.Desk.lent g.D.Desk.spent g.G.Gate.is_passed g.W.Work.job (g.D.Desk.origin c.args.desk.now)
     (g.G.Gate.is_passed c.args.lanes.now.gate.now) (g.D.Desk.lanes_of c.run_seats-end.new.pass)
     c.run_seats-end.new.seats.items v2.seen r.seats r.end.empty in
     free_then _ _ (g.D.Desk.lanes_of c.run_seats-end.new.pass) v0 v1 v2 c.widen.ensures.wider.free
@@ -27,7 +27,7 @@ returns-in-Ok-clause-on g c =
     let v1 = g.D.Desk.view c.widen.new.pass in
     let v2 = g.D.Desk.view c.run_seats-end.new.pass in
     let r = c.run_seats-end.ensures in
-    let none = none_held g.D.Desk.lent g.D.Desk.spent g.W.Work.job (g.D.Desk.origin c.args.desk.now)
+    let none = none_held g.D.Desk.lent g.D.Desk.spent g.G.Gate.is_passed g.W.Work.job (g.D.Desk.origin c.args.desk.now)
     (g.G.Gate.is_passed c.args.lanes.now.gate.now) (g.D.Desk.lanes_of c.run_seats-end.new.pass)
     c.run_seats-end.new.seats.items v2.seen r.seats r.end.empty in
     let free = free_then _ _ (g.D.Desk.lanes_of c.run_seats-end.new.pass) v0 v1 v2 c.widen.ensures.wider.free
@@ -49,7 +49,7 @@ returns-in-Ok-clause-once g c = λ not.
     let v1 = g.D.Desk.view c.widen.new.pass in
     let v2 = g.D.Desk.view c.run_seats-end.new.pass in
     let r = c.run_seats-end.ensures in
-    let back = none_back g.D.Desk.lent g.D.Desk.spent g.W.Work.job (g.D.Desk.origin c.args.desk.now)
+    let back = none_back g.D.Desk.lent g.D.Desk.spent g.G.Gate.is_passed g.W.Work.job (g.D.Desk.origin c.args.desk.now)
     (g.G.Gate.is_passed c.args.lanes.now.gate.now) (g.D.Desk.lanes_of c.run_seats-end.new.pass)
     c.run_seats-end.new.seats.items v2.seen r.seats (r.end.kept not) in
     let lane : v2.lane ≡ v0.lane = r.keeps.lane ∙ c.widen.ensures.wider.lane in
@@ -67,9 +67,9 @@ pub widen-requires-clause-seats : goal.widen-requires-clause-seats
 widen-requires-clause-seats g c κs within =
     let v = g.D.Desk.view c.args.pass.now in
     let was : v.mine ≡ own v.seen c.lane.result = c.lane.ensures.own in
-    first_seats g.D.Desk.lent g.D.Desk.spent g.W.Work.job (g.D.Desk.origin c.args.desk.now)
-    (g.G.Gate.is_passed c.args.lanes.now.gate.now) (g.D.Desk.lanes_of c.args.pass.now) c.in-Ok.seats.items
-    c.lane.result v.seen
+    first_seats g.D.Desk.lent g.D.Desk.spent g.G.Gate.is_passed g.W.Work.job (g.D.Desk.origin c.args.desk.now)
+    (g.G.Gate.is_passed c.args.lanes.now.gate.now) c.args.lanes.now.gate.now (λ _ _ passed. passed)
+    (g.D.Desk.lanes_of c.args.pass.now) c.in-Ok.seats.items c.lane.result v.seen
     c.in-Ok.ensures.one c.in-Ok.ensures.new c.lane.ensures.one (ap holds (sym was) ∙ c.requires.idle.free) (ap returns (sym was) ∙ c.requires.idle.once)
 
 pub widen-requires-clause-free : goal.widen-requires-clause-free

@@ -11,7 +11,7 @@ use Rattle.bank_lanes.proofs.lanes.widen.Goals as goal
 
 pub returns-in-AllMade-clause-seats : goal.returns-in-AllMade-clause-seats
 returns-in-AllMade-clause-seats g c =
-    seats_kept g.D.Desk.lent g.D.Desk.spent g.W.Work.job (g.D.Desk.origin c.args.desk.now)
+    seats_kept g.D.Desk.lent g.D.Desk.spent g.G.Gate.is_passed g.W.Work.job (g.D.Desk.origin c.args.desk.now)
     (g.G.Gate.is_passed c.args.gate.now) (g.D.Desk.lanes_of c.loop.pass)
     (g.D.Desk.lanes_of c.split.new.pass) c.loop.seats.items (g.D.Desk.view c.loop.pass).seen
     (g.D.Desk.view c.split.new.pass).seen
@@ -45,10 +45,10 @@ loop-preserved g c =
     ≡ [] = same_own theirs (g.D.Desk.view c.in-Made.made).seen (g.D.Desk.view c.join.new.pass).seen lane
     c.join.ensures.each_other c.lane-lane.ensures.one
     ∙ (ap (λ l. own (g.D.Desk.view c.in-Made.made).seen l) c.lane-lane.ensures.lane ∙ new.own) in
-    let first = seats_kept g.D.Desk.lent g.D.Desk.spent g.W.Work.job (g.D.Desk.origin c.args.desk.now)
+    let first = seats_kept g.D.Desk.lent g.D.Desk.spent g.G.Gate.is_passed g.W.Work.job (g.D.Desk.origin c.args.desk.now)
     (g.G.Gate.is_passed c.args.gate.now) (g.D.Desk.lanes_of c.loop.pass) was c.loop.seats.items
     (g.D.Desk.view c.loop.pass).seen (g.D.Desk.view c.split.new.pass).seen split.more split.each i.seats in
-    let kept = seats_kept g.D.Desk.lent g.D.Desk.spent g.W.Work.job (g.D.Desk.origin c.args.desk.now)
+    let kept = seats_kept g.D.Desk.lent g.D.Desk.spent g.G.Gate.is_passed g.W.Work.job (g.D.Desk.origin c.args.desk.now)
     (g.G.Gate.is_passed c.args.gate.now) was now c.loop.seats.items (g.D.Desk.view c.split.new.pass).seen
     (g.D.Desk.view c.join.new.pass).seen joined.more joined.each first in
     let pushed = c.push_reserved.ensures.items in
@@ -56,10 +56,10 @@ loop-preserved g c =
       desk = c.join.ensures.desk;
       long = search rules;
       room = search rules;
-      seats = subst (λ ss. AreSeats g.D.Desk.lent g.D.Desk.spent g.W.Work.job (g.D.Desk.origin c.args.desk.now)
+      seats = subst (λ ss. AreSeats g.D.Desk.lent g.D.Desk.spent g.G.Gate.is_passed g.W.Work.job (g.D.Desk.origin c.args.desk.now)
           (g.G.Gate.is_passed c.args.gate.now) now ss (g.D.Desk.view c.join.new.pass).seen) (sym pushed)
-          (seats_pushed g.D.Desk.lent g.D.Desk.spent g.W.Work.job (g.D.Desk.origin c.args.desk.now)
-          (g.G.Gate.is_passed c.args.gate.now) was now c.loop.seats.items c.new.result lane
+          (seats_pushed g.D.Desk.lent g.D.Desk.spent g.G.Gate.is_passed g.W.Work.job (g.D.Desk.origin c.args.desk.now)
+          (g.G.Gate.is_passed c.args.gate.now) c.args.gate.now (λ _ _ passed. passed) was now c.loop.seats.items c.new.result lane
           (g.D.Desk.view c.join.new.pass).seen c.new.ensures first.lanes_are
           (c.join.ensures.apart lane c.lane-lane.ensures.one) kept
           (subst (λ ls. is_one_of ls lane ≡ true) (sym c.join.ensures.both)

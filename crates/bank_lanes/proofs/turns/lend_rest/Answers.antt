@@ -8,16 +8,16 @@ use Rattle.bank_lanes.proofs.turns.lend_rest.Goals as goal
 pub lend_to-requires-clause-lane : goal.lend_to-requires-clause-lane
 lend_to-requires-clause-lane g c = λ κs live.
     let within : c.loop-at.at < length c.loop-at.seats = omega arith in
-    lane_within g.D.Desk.lent g.D.Desk.spent g.W.Work.job (g.D.Desk.origin c.args.desk.now)
-    (g.G.Gate.is_passed c.args.gate.now) _ c.loop-at.seats _ c.loop-at.at c.index-seats-at.result within
+    lane_within g.D.Desk.lent g.D.Desk.spent g.G.Gate.is_passed g.W.Work.job (g.D.Desk.origin c.args.desk.now)
+    (g.G.Gate.is_passed c.args.gate.now.value) _ c.loop-at.seats _ c.loop-at.at c.index-seats-at.result within
     c.loop-at.invariant.seats
 
 pub returns-then-ne-clause-keeps : goal.returns-then-ne-clause-keeps
 returns-then-ne-clause-keeps g c =
     let i = c.loop-at.invariant in
     let within : c.loop-at.at < length c.loop-at.seats = omega arith in
-    (advance g.D.Desk.lent g.D.Desk.spent g.W.Work.job (g.D.Desk.origin c.args.desk.now)
-    (g.G.Gate.is_passed c.args.gate.now) (seat_lanes c.args.seats.now) _
+    (advance g.D.Desk.lent g.D.Desk.spent g.G.Gate.is_passed g.W.Work.job (g.D.Desk.origin c.args.desk.now)
+    (g.G.Gate.is_passed c.args.gate.now.value) (seat_lanes c.args.seats.now) _
     (g.D.Desk.turn_lanes c.loop-at.turn) (g.D.Desk.turn_lanes c.lend_to.new.turn) _
     (g.D.Desk.turn_view c.loop-at.turn) (g.D.Desk.turn_view c.lend_to.new.turn)
     c.loop-at.seats c.loop-at.at c.lend_to.new.seat c.index-seats-at.result within i.same i.keeps i.seats
@@ -27,8 +27,8 @@ pub returns-then-ne-clause-same : goal.returns-then-ne-clause-same
 returns-then-ne-clause-same g c =
     let i = c.loop-at.invariant in
     let within : c.loop-at.at < length c.loop-at.seats = omega arith in
-    (advance g.D.Desk.lent g.D.Desk.spent g.W.Work.job (g.D.Desk.origin c.args.desk.now)
-    (g.G.Gate.is_passed c.args.gate.now) (seat_lanes c.args.seats.now) _
+    (advance g.D.Desk.lent g.D.Desk.spent g.G.Gate.is_passed g.W.Work.job (g.D.Desk.origin c.args.desk.now)
+    (g.G.Gate.is_passed c.args.gate.now.value) (seat_lanes c.args.seats.now) _
     (g.D.Desk.turn_lanes c.loop-at.turn) (g.D.Desk.turn_lanes c.lend_to.new.turn) _
     (g.D.Desk.turn_view c.loop-at.turn) (g.D.Desk.turn_view c.lend_to.new.turn)
     c.loop-at.seats c.loop-at.at c.lend_to.new.seat c.index-seats-at.result within i.same i.keeps i.seats
@@ -38,8 +38,8 @@ pub returns-then-ne-clause-seats : goal.returns-then-ne-clause-seats
 returns-then-ne-clause-seats g c =
     let i = c.loop-at.invariant in
     let within : c.loop-at.at < length c.loop-at.seats = omega arith in
-    (advance g.D.Desk.lent g.D.Desk.spent g.W.Work.job (g.D.Desk.origin c.args.desk.now)
-    (g.G.Gate.is_passed c.args.gate.now) (seat_lanes c.args.seats.now) _
+    (advance g.D.Desk.lent g.D.Desk.spent g.G.Gate.is_passed g.W.Work.job (g.D.Desk.origin c.args.desk.now)
+    (g.G.Gate.is_passed c.args.gate.now.value) (seat_lanes c.args.seats.now) _
     (g.D.Desk.turn_lanes c.loop-at.turn) (g.D.Desk.turn_lanes c.lend_to.new.turn) _
     (g.D.Desk.turn_view c.loop-at.turn) (g.D.Desk.turn_view c.lend_to.new.turn)
     c.loop-at.seats c.loop-at.at c.lend_to.new.seat c.index-seats-at.result within i.same i.keeps i.seats
@@ -52,8 +52,8 @@ pub loop-at-preserved : goal.loop-at-preserved
 loop-at-preserved g c =
     let i = c.loop-at.invariant in
     let within : c.loop-at.at < length c.loop-at.seats = omega arith in
-    let next = advance g.D.Desk.lent g.D.Desk.spent g.W.Work.job (g.D.Desk.origin c.args.desk.now)
-    (g.G.Gate.is_passed c.args.gate.now) (seat_lanes c.args.seats.now) _
+    let next = advance g.D.Desk.lent g.D.Desk.spent g.G.Gate.is_passed g.W.Work.job (g.D.Desk.origin c.args.desk.now)
+    (g.G.Gate.is_passed c.args.gate.now.value) (seat_lanes c.args.seats.now) _
     (g.D.Desk.turn_lanes c.loop-at.turn) (g.D.Desk.turn_lanes c.lend_to.new.turn) _
     (g.D.Desk.turn_view c.loop-at.turn) (g.D.Desk.turn_view c.lend_to.new.turn)
     c.loop-at.seats c.loop-at.at c.lend_to.new.seat c.index-seats-at.result within i.same i.keeps i.seats

@@ -8,14 +8,14 @@ use Rattle.bank_lanes.proofs.turns.lend_to.Goals as goal
 
 pub returns-in-Lent-clause-seat : goal.returns-in-Lent-clause-seat
 returns-in-Lent-clause-seat g c =
-    subst (λ s. IsSeatOf g.D.Desk.lent g.D.Desk.spent g.W.Work.job (g.D.Desk.origin c.args.desk.now)
-    (g.G.Gate.is_passed c.args.gate.now) s (g.D.Desk.turn_view c.lend.new.turn).seen) (sym c.hold.ensures)
-    (seat_lent g.D.Desk.lent g.D.Desk.spent g.W.Work.job (g.D.Desk.origin c.args.desk.now)
-    (g.G.Gate.is_passed c.args.gate.now) c.args.seat.now.lane c.args.seat.now.gave_back
-    c.args.seat.now.passes c.in-Lent.loan _ (g.D.Desk.lent c.in-Lent.loan).position
+    subst (λ s. IsSeatOf g.D.Desk.lent g.D.Desk.spent g.G.Gate.is_passed g.W.Work.job (g.D.Desk.origin c.args.desk.now)
+    (g.G.Gate.is_passed c.args.gate.now.value) s (g.D.Desk.turn_view c.lend.new.turn).seen) (sym c.hold.ensures)
+    (seat_lent g.D.Desk.lent g.D.Desk.spent g.G.Gate.is_passed g.W.Work.job (g.D.Desk.origin c.args.desk.now)
+    (g.G.Gate.is_passed c.args.gate.now.value) c.args.seat.now.lane c.args.seat.now.gave_back
+    c.args.seat.now.log c.in-Lent.loan _ (g.D.Desk.lent c.in-Lent.loan).position
     (g.D.Desk.turn_view c.args.turn.now).seen (g.D.Desk.turn_view c.lend.new.turn).seen
     refl (ap (λ v. v.seen) c.in-Lent.ensures.event) c.in-Lent.ensures.lend.0
-    refl c.in-Lent.ensures.lend.1 (c.requires.seat.once c.requires.free.1) c.requires.seat.passes_lane)
+    refl c.in-Lent.ensures.lend.1 (c.requires.seat.once c.requires.free.1) c.requires.seat.passes_lane c.requires.seat.its)
 
 pub returns-in-Lent-clause-found : goal.returns-in-Lent-clause-found
 returns-in-Lent-clause-found g c =
@@ -31,6 +31,6 @@ returns-in-NotNow-clause-found g c =
 
 pub returns-in-Lent-clause-step : goal.returns-in-Lent-clause-step
 returns-in-Lent-clause-step g c =
-    stepped (g.G.Gate.is_passed c.args.gate.now) (g.D.Desk.turn_view c.args.turn.now)
+    stepped (g.G.Gate.is_passed c.args.gate.now.value) (g.D.Desk.turn_view c.args.turn.now)
     (g.D.Desk.turn_view c.lend.new.turn) Grant c.args.seat.now.lane (g.D.Desk.lent c.in-Lent.loan).position
     c.args.seat.now.lane refl c.in-Lent.ensures.event (λ e. absurd (cc e))

@@ -8,8 +8,8 @@ turns-preserved-in-Loan g c =
     let i = c.turns.invariant in
     record {
       desk = c.take_turn.ensures.desk;
-      keeps = keeps_then (g.G.Gate.is_passed c.args.gate.now) _ _ _ _ _ _ _ i.keeps
-          (subst (λ ms. KeepsTo (g.G.Gate.is_passed c.args.gate.now) ms (g.D.Desk.lanes_of c.turns.pass)
+      keeps = keeps_then (g.G.Gate.is_passed c.args.gate.now.value) _ _ _ _ _ _ _ i.keeps
+          (subst (λ ms. KeepsTo (g.G.Gate.is_passed c.args.gate.now.value) ms (g.D.Desk.lanes_of c.turns.pass)
           (g.D.Desk.view c.turns.pass) (g.D.Desk.lanes_of c.take_turn.new.pass)
           (g.D.Desk.view c.take_turn.new.pass)) i.same c.take_turn.ensures.keeps);
       same = c.perform_all.ensures.same ∙ (c.take_turn.ensures.same ∙ i.same);
@@ -23,8 +23,8 @@ turns-preserved g c =
     let i = c.turns.invariant in
     record {
       desk = c.take_turn.ensures.desk;
-      keeps = keeps_then (g.G.Gate.is_passed c.args.gate.now) _ _ _ _ _ _ _ i.keeps
-          (subst (λ ms. KeepsTo (g.G.Gate.is_passed c.args.gate.now) ms (g.D.Desk.lanes_of c.turns.pass)
+      keeps = keeps_then (g.G.Gate.is_passed c.args.gate.now.value) _ _ _ _ _ _ _ i.keeps
+          (subst (λ ms. KeepsTo (g.G.Gate.is_passed c.args.gate.now.value) ms (g.D.Desk.lanes_of c.turns.pass)
           (g.D.Desk.view c.turns.pass) (g.D.Desk.lanes_of c.take_turn.new.pass)
           (g.D.Desk.view c.take_turn.new.pass)) i.same c.take_turn.ensures.keeps);
       same = c.take_turn.ensures.same ∙ i.same;
@@ -38,8 +38,8 @@ turns-preserved-in-Others g c =
     let i = c.turns.invariant in
     record {
       desk = c.take_turn.ensures.desk;
-      keeps = keeps_then (g.G.Gate.is_passed c.args.gate.now) _ _ _ _ _ _ _ i.keeps
-          (subst (λ ms. KeepsTo (g.G.Gate.is_passed c.args.gate.now) ms (g.D.Desk.lanes_of c.turns.pass)
+      keeps = keeps_then (g.G.Gate.is_passed c.args.gate.now.value) _ _ _ _ _ _ _ i.keeps
+          (subst (λ ms. KeepsTo (g.G.Gate.is_passed c.args.gate.now.value) ms (g.D.Desk.lanes_of c.turns.pass)
           (g.D.Desk.view c.turns.pass) (g.D.Desk.lanes_of c.take_turn.new.pass)
           (g.D.Desk.view c.take_turn.new.pass)) i.same c.take_turn.ensures.keeps);
       same = c.take_turn.ensures.same ∙ i.same;
@@ -51,16 +51,16 @@ turns-preserved-in-Others g c =
 pub returns-in-End-clause-keeps : goal.returns-in-End-clause-keeps
 returns-in-End-clause-keeps g c =
     let i = c.turns.invariant in
-    keeps_then (g.G.Gate.is_passed c.args.gate.now) _ _ _ _ _ _ _ i.keeps
-    (subst (λ ms. KeepsTo (g.G.Gate.is_passed c.args.gate.now) ms (g.D.Desk.lanes_of c.turns.pass)
+    keeps_then (g.G.Gate.is_passed c.args.gate.now.value) _ _ _ _ _ _ _ i.keeps
+    (subst (λ ms. KeepsTo (g.G.Gate.is_passed c.args.gate.now.value) ms (g.D.Desk.lanes_of c.turns.pass)
     (g.D.Desk.view c.turns.pass) (g.D.Desk.lanes_of c.take_turn.new.pass)
     (g.D.Desk.view c.take_turn.new.pass)) i.same c.take_turn.ensures.keeps)
 
 pub returns-in-Alone-clause-keeps : goal.returns-in-Alone-clause-keeps
 returns-in-Alone-clause-keeps g c =
     let i = c.turns.invariant in
-    keeps_then (g.G.Gate.is_passed c.args.gate.now) _ _ _ _ _ _ _ i.keeps
-    (subst (λ ms. KeepsTo (g.G.Gate.is_passed c.args.gate.now) ms (g.D.Desk.lanes_of c.turns.pass)
+    keeps_then (g.G.Gate.is_passed c.args.gate.now.value) _ _ _ _ _ _ _ i.keeps
+    (subst (λ ms. KeepsTo (g.G.Gate.is_passed c.args.gate.now.value) ms (g.D.Desk.lanes_of c.turns.pass)
     (g.D.Desk.view c.turns.pass) (g.D.Desk.lanes_of c.take_turn.new.pass)
     (g.D.Desk.view c.take_turn.new.pass)) i.same c.take_turn.ensures.keeps)
 

@@ -10,16 +10,16 @@ use Rattle.bank_lanes.proofs.turns.settle_all.Goals.{then-seats-at, else-seats-a
 pub settle-requires-clause-lane : goal.settle-requires-clause-lane
 settle-requires-clause-lane g c = λ κs live.
     let within : c.loop-at.at < length c.loop-at.seats = omega arith in
-    lane_within g.D.Desk.lent g.D.Desk.spent g.W.Work.job (g.D.Desk.origin c.args.desk.now)
-    (g.G.Gate.is_passed c.args.gate.now) _ c.loop-at.seats _ c.loop-at.at c.index-seats-at-in-loop-at.result
+    lane_within g.D.Desk.lent g.D.Desk.spent g.G.Gate.is_passed g.W.Work.job (g.D.Desk.origin c.args.desk.now)
+    (g.G.Gate.is_passed c.args.gate.now.value) _ c.loop-at.seats _ c.loop-at.at c.index-seats-at-in-loop-at.result
     within c.loop-at.invariant.seats
 
 pub loop-at-preserved : goal.loop-at-preserved
 loop-at-preserved g c =
     let i = c.loop-at.invariant in
     let within : c.loop-at.at < length c.loop-at.seats = omega arith in
-    let next = advance g.D.Desk.lent g.D.Desk.spent g.W.Work.job (g.D.Desk.origin c.args.desk.now)
-    (g.G.Gate.is_passed c.args.gate.now) (seat_lanes c.args.seats.now) _
+    let next = advance g.D.Desk.lent g.D.Desk.spent g.G.Gate.is_passed g.W.Work.job (g.D.Desk.origin c.args.desk.now)
+    (g.G.Gate.is_passed c.args.gate.now.value) (seat_lanes c.args.seats.now) _
     (g.D.Desk.turn_lanes c.loop-at.turn) (g.D.Desk.turn_lanes c.settle.new.turn) _
     (g.D.Desk.turn_view c.loop-at.turn) (g.D.Desk.turn_view c.settle.new.turn)
     c.loop-at.seats c.loop-at.at c.settle.new.seat c.index-seats-at-in-loop-at.result within i.same i.keeps

@@ -8,10 +8,10 @@ abbrev pub invariant-loop-at : goal.invariant-loop-at
 invariant-loop-at g l = record {
   desk : g.D.Desk.is_turn_of l.desk l.turn;
   own : AreItsOwn (g.D.Desk.turn_view l.turn);
-  keeps : KeepsTo (g.G.Gate.is_passed l.gate) (seat_lanes l.initial.seats) (g.D.Desk.turn_lanes l.initial.turn)
+  keeps : KeepsTo (g.G.Gate.is_passed l.gate.value) (seat_lanes l.initial.seats) (g.D.Desk.turn_lanes l.initial.turn)
       (g.D.Desk.turn_view l.initial.turn) (g.D.Desk.turn_lanes l.turn) (g.D.Desk.turn_view l.turn);
   same : seat_lanes l.seats ≡ seat_lanes l.initial.seats;
-  seats : AreSeats g.D.Desk.lent g.D.Desk.spent g.W.Work.job (g.D.Desk.origin l.desk) (g.G.Gate.is_passed l.gate) (g.D.Desk.turn_lanes l.turn) l.seats (g.D.Desk.turn_view l.turn).seen;
+  seats : AreSeats g.D.Desk.lent g.D.Desk.spent g.G.Gate.is_passed g.W.Work.job (g.D.Desk.origin l.desk) (g.G.Gate.is_passed l.gate.value) (g.D.Desk.turn_lanes l.turn) l.seats (g.D.Desk.turn_view l.turn).seen;
   empty : AllWithin IsEmpty l.seats 0 l.at;
   filled : AreFilledFrom l.at l.seats;
   kept : l.kept ≡ true → All HasKept l.seats;

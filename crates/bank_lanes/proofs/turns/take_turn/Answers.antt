@@ -8,8 +8,8 @@ use Rattle.bank_lanes.proofs.turns.take_turn.Goals as goal
 
 pub under_turn-found-requires-clause-seats : goal.under_turn-found-requires-clause-seats
 under_turn-found-requires-clause-seats g c = λ κs live.
-    seats_kept g.D.Desk.lent g.D.Desk.spent g.W.Work.job (g.D.Desk.origin c.args.desk.now)
-    (g.G.Gate.is_passed c.args.gate.now) (g.D.Desk.lanes_of c.args.pass.now)
+    seats_kept g.D.Desk.lent g.D.Desk.spent g.G.Gate.is_passed g.W.Work.job (g.D.Desk.origin c.args.desk.now)
+    (g.G.Gate.is_passed c.args.gate.now.value) (g.D.Desk.lanes_of c.args.pass.now)
     (g.D.Desk.turn_lanes c.begin-turn.result) c.args.seats.now (g.D.Desk.view c.args.pass.now).seen
     (g.D.Desk.turn_view c.begin-turn.result).seen
     (λ l one. subst (λ ls. is_one_of ls l ≡ true) (sym c.begin-turn.ensures.lanes) one) c.begin-turn.ensures.each c.requires.seats
@@ -17,9 +17,9 @@ under_turn-found-requires-clause-seats g c = λ κs live.
 pub returns-clause-keeps : goal.returns-clause-keeps
 returns-clause-keeps g c =
     let mine = seat_lanes c.args.seats.now in
-    subst₂ (λ ls v. KeepsTo (g.G.Gate.is_passed c.args.gate.now) mine (g.D.Desk.lanes_of c.args.pass.now) (g.D.Desk.view c.args.pass.now) ls v) (sym c.end.ensures.lanes) (sym c.end.ensures.view)
-    (keeps_then (g.G.Gate.is_passed c.args.gate.now) mine _ _ _ _ _ _
-    (keeps_to (g.G.Gate.is_passed c.args.gate.now) mine _ _ _ _ c.begin-turn.ensures.lanes
+    subst₂ (λ ls v. KeepsTo (g.G.Gate.is_passed c.args.gate.now.value) mine (g.D.Desk.lanes_of c.args.pass.now) (g.D.Desk.view c.args.pass.now) ls v) (sym c.end.ensures.lanes) (sym c.end.ensures.view)
+    (keeps_then (g.G.Gate.is_passed c.args.gate.now.value) mine _ _ _ _ _ _
+    (keeps_to (g.G.Gate.is_passed c.args.gate.now.value) mine _ _ _ _ c.begin-turn.ensures.lanes
     c.begin-turn.ensures.stays c.begin-turn.ensures.each) c.under_turn-found.ensures.keeps)
 
 pub returns-clause-found : goal.returns-clause-found

@@ -3,6 +3,7 @@ use Rattle.account_store.specs.State.{at}
 use Rattle.bank_law.specs.declared.event.EventKind.TheVariants.{Commit}
 use Rattle.bank_law.specs.History.{holds, own}
 use Rattle.bank_law.specs.Machine.{with_event}
+use Rattle.bank_lanes.specs.Gates.{HasPassedOnce}
 use Rattle.block_lanes.proofs.Turns.{fewer_turns, lent_holds, passes_granted, stays_alone}
 use Rattle.block_lanes.proofs.lanes.run_alone.Goals as goal
 
@@ -39,6 +40,8 @@ turns-preserved g c =
       one = c.commit.ensures.lanes ∙ (c.in-Loan.ensures.lanes ∙ i.one);
       alone = stays_alone c.turns.core.journal.items lent position i.alone c.in-Loan.ensures.journal c.commit.new.self.journal.items commit;
       passed = passes_granted c.turns.core.journal.items lent position i.alone c.in-Loan.ensures.journal
-          c.commit.new.self.journal.items commit (g.G.Gate.is_passed c.args.gate.now) c.turns.passes
-          c.pass.new.self i.passed (search rules);
+          c.commit.new.self.journal.items commit (g.G.Gate.is_passed c.args.log.now.gate.now) c.turns.log.passes
+          c.pass.new.self.passes i.passed
+          (subst (λ e. HasPassedOnce (g.G.Gate.is_passed e.now) c.turns.log.passes position c.pass.new.self.passes) i.gate (search rules));
+      gate = c.pass.ensures.gate ∙ i.gate;
     }

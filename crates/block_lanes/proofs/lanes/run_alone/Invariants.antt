@@ -9,7 +9,8 @@ invariant-turns g l = record {
   origin : l.core.origin.value ≡ l.initial.core.origin.value;
   one : l.core.lanes ≡ 1;
   alone : IsAlone l.core.journal.items;
-  passed : HasPassedGranted (g.G.Gate.is_passed l.gate) 0 l.core.journal.items l.passes;
+  gate : l.log.gate ≡ l.initial.log.gate;
+  passed : HasPassedGranted (g.G.Gate.is_passed l.initial.log.gate.now) 0 l.core.journal.items l.log.passes;
 }
 
 -- a position takes two events
