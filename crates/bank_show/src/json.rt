@@ -37,20 +37,15 @@ fn block_value(alloc: Global, block: &Block) -> Result<Value, AllocError>
     requires { HasTexts block.now }
     ensures { IfOk result (λ v. view v ≡ block_json block.now) }
 {
-    let collector = hex_value(alloc, &block.collector.0)?;
-    let entries = entries_value(alloc, block.entries.as_slice())?;
-    let hash = hex_value(alloc, &block.hash.0)?;
-    let previous = hex_value(alloc, &block.previous.0)?;
-    let state = hex_value(alloc, &block.state.0)?;
     json!(in alloc; {
         "burned": block.burned,
         "collected": block.collected,
-        "collector": collector,
-        "entries": entries,
-        "hash": hash,
-        "previous": previous,
+        "collector": hex_value(alloc, &block.collector.0)?,
+        "entries": entries_value(alloc, block.entries.as_slice())?,
+        "hash": hex_value(alloc, &block.hash.0)?,
+        "previous": hex_value(alloc, &block.previous.0)?,
         "slot": block.slot,
-        "state": state,
+        "state": hex_value(alloc, &block.state.0)?,
     })
 }
 
@@ -69,14 +64,11 @@ fn entry_value(alloc: Global, entry: &Entry) -> Result<Value, AllocError>
     requires { All IsUtf8 entry.now.lines }
     ensures { IfOk result (λ v. view v ≡ entry_json entry.now) }
 {
-    let lines = lines_value(alloc, entry.lines.as_slice())?;
-    let status = status_value(alloc, entry.status)?;
-    let transaction = hex_value(alloc, entry.wire.as_slice())?;
     json!(in alloc; {
         "fee": entry.fee,
-        "lines": lines,
-        "status": status,
-        "transaction": transaction,
+        "lines": lines_value(alloc, entry.lines.as_slice())?,
+        "status": status_value(alloc, entry.status)?,
+        "transaction": hex_value(alloc, entry.wire.as_slice())?,
         "units": entry.units,
     })
 }
