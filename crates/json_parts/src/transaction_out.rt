@@ -59,9 +59,11 @@ impl InJson for Instructions {
     ghost json_of = { instruction_json };
 
     fn value(alloc: Global, item: &Instruction) -> Result<Value, AllocError> {
-        let accounts = list_value::<Bytes>(alloc, item.accounts.as_slice())?;
-        let data = hex_value(alloc, item.input.as_slice())?;
-        json!(in alloc; {"accounts": accounts, "data": data, "program": item.program})
+        json!(in alloc; {
+            "accounts": list_value::<Bytes>(alloc, item.accounts.as_slice())?,
+            "data": hex_value(alloc, item.input.as_slice())?,
+            "program": item.program,
+        })
     }
 }
 
@@ -73,10 +75,11 @@ impl InJson for Lookups {
     ghost json_of = { lookup_json };
 
     fn value(alloc: Global, item: &Lookup) -> Result<Value, AllocError> {
-        let readonly = list_value::<Bytes>(alloc, item.readonly.as_slice())?;
-        let table = hex_value(alloc, &item.table.0)?;
-        let writable = list_value::<Bytes>(alloc, item.writable.as_slice())?;
-        json!(in alloc; {"readonly": readonly, "table": table, "writable": writable})
+        json!(in alloc; {
+            "readonly": list_value::<Bytes>(alloc, item.readonly.as_slice())?,
+            "table": hex_value(alloc, &item.table.0)?,
+            "writable": list_value::<Bytes>(alloc, item.writable.as_slice())?,
+        })
     }
 }
 
@@ -103,29 +106,21 @@ fn tx_value(alloc: Global, tx: &Tx) -> Result<Value, AllocError>
     ensures { IfOk result (λ v. view v ≡ tx_json tx.now) }
 {
     let message = &tx.message;
-    let header = header_value(alloc, message.header)?;
-    let instructions = list_value::<Instructions>(alloc, message.instructions.as_slice())?;
-    let keys = list_value::<Keys>(alloc, message.keys.as_slice())?;
-    let lookups = list_value::<Lookups>(alloc, message.lookups.as_slice())?;
-    let recent_blockhash = hex_value(alloc, &message.blockhash.0)?;
-    let signatures = list_value::<Signatures>(alloc, tx.signatures.as_slice())?;
-    let version = version_value(alloc, message.kind)?;
     json!(in alloc; {
-        "header": header,
-        "instructions": instructions,
-        "keys": keys,
-        "lookups": lookups,
-        "recent_blockhash": recent_blockhash,
-        "signatures": signatures,
-        "version": version,
+        "header": header_value(alloc, message.header)?,
+        "instructions": list_value::<Instructions>(alloc, message.instructions.as_slice())?,
+        "keys": list_value::<Keys>(alloc, message.keys.as_slice())?,
+        "lookups": list_value::<Lookups>(alloc, message.lookups.as_slice())?,
+        "recent_blockhash": hex_value(alloc, &message.blockhash.0)?,
+        "signatures": list_value::<Signatures>(alloc, tx.signatures.as_slice())?,
+        "version": version_value(alloc, message.kind)?,
     })
 }
 
 fn wire_value(alloc: Global, bytes: &[u8]) -> Result<Value, AllocError>
     ensures { IfOk result (λ v. view v ≡ object (member (codes "wire") (hex_json bytes.now) no_members)) }
 {
-    let wire = hex_value(alloc, bytes)?;
-    json!(in alloc; {"wire": wire})
+    json!(in alloc; {"wire": hex_value(alloc, bytes)?})
 }
 
 /// The transaction as a JSON value (the project's own form): what `transaction` reads as the same
