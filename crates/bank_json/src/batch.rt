@@ -47,12 +47,10 @@ impl InJson for Transactions {
 fn value_of(alloc: Global, batch: &Batch) -> Result<Value, AllocError>
     ensures { IfOk result (λ v. view v ≡ batch_json batch.now) }
 {
-    let collector = hex_value(alloc, &batch.collector.0)?;
-    let transactions = list_value::<Transactions>(alloc, batch.wires.as_slice())?;
     json!(in alloc; {
-        "collector": collector,
+        "collector": hex_value(alloc, &batch.collector.0)?,
         "slot": batch.slot,
-        "transactions": transactions,
+        "transactions": list_value::<Transactions>(alloc, batch.wires.as_slice())?,
     })
 }
 

@@ -21,9 +21,10 @@ fn value_of(alloc: Global, text: &[u8], constants: &[u8]) -> Result<Value, Alloc
     ensures { IfOk result (λ v. view v
         ≡ image_json (record { text = text.now; constants = constants.now })) }
 {
-    let shown_constants = hex_value(alloc, constants)?;
-    let shown_text = hex_value(alloc, text)?;
-    json!(in alloc; {"constants": shown_constants, "text": shown_text})
+    json!(in alloc; {
+        "constants": hex_value(alloc, constants)?,
+        "text": hex_value(alloc, text)?,
+    })
 }
 
 /// The program image that the bytes are, as a JSON value (the project's own form): what

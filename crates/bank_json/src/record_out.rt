@@ -82,14 +82,11 @@ impl InJson for Entries {
     ghost json_of = { entry_json };
 
     fn value(alloc: Global, item: &Entry) -> Result<Value, AllocError> {
-        let lines = list_value::<Lines>(alloc, item.lines.as_slice())?;
-        let status = status_value(alloc, item.status)?;
-        let transaction = transaction_value(alloc, item.wire.as_slice())?;
         json!(in alloc; {
             "fee": item.fee,
-            "lines": lines,
-            "status": status,
-            "transaction": transaction,
+            "lines": list_value::<Lines>(alloc, item.lines.as_slice())?,
+            "status": status_value(alloc, item.status)?,
+            "transaction": transaction_value(alloc, item.wire.as_slice())?,
             "units": item.units,
         })
     }
@@ -98,20 +95,15 @@ impl InJson for Entries {
 fn block_value(alloc: Global, block: &Block) -> Result<Value, AllocError>
     ensures { IfOk result (λ v. view v ≡ record_json block.now) }
 {
-    let collector = hex_value(alloc, &block.collector.0)?;
-    let entries = list_value::<Entries>(alloc, block.entries.as_slice())?;
-    let hash = hex_value(alloc, &block.hash.0)?;
-    let previous = hex_value(alloc, &block.previous.0)?;
-    let state = hex_value(alloc, &block.state.0)?;
     json!(in alloc; {
         "burned": block.burned,
         "collected": block.collected,
-        "collector": collector,
-        "entries": entries,
-        "hash": hash,
-        "previous": previous,
+        "collector": hex_value(alloc, &block.collector.0)?,
+        "entries": list_value::<Entries>(alloc, block.entries.as_slice())?,
+        "hash": hex_value(alloc, &block.hash.0)?,
+        "previous": hex_value(alloc, &block.previous.0)?,
         "slot": block.slot,
-        "state": state,
+        "state": hex_value(alloc, &block.state.0)?,
     })
 }
 

@@ -36,24 +36,22 @@ impl InJson for Marks {
     ghost json_of = { mark_json };
 
     fn value(alloc: Global, item: &Mark) -> Result<Value, AllocError> {
-        let hash = hex_value(alloc, &item.hash.0)?;
-        let messages = list_value::<Hashes>(alloc, item.messages.as_slice())?;
-        json!(in alloc; {"hash": hash, "messages": messages})
+        json!(in alloc; {
+            "hash": hex_value(alloc, &item.hash.0)?,
+            "messages": list_value::<Hashes>(alloc, item.messages.as_slice())?,
+        })
     }
 }
 
 fn account_value(alloc: Global, key: &Key, account: &Account) -> Result<Value, AllocError>
     ensures { IfOk result (λ v. view v ≡ account_json (key.now, account.now)) }
 {
-    let data = hex_value(alloc, account.bytes.as_slice())?;
-    let shown_key = hex_value(alloc, &key.0)?;
-    let owner = hex_value(alloc, &account.owner.0)?;
     json!(in alloc; {
-        "data": data,
+        "data": hex_value(alloc, account.bytes.as_slice())?,
         "executable": account.executable,
-        "key": shown_key,
+        "key": hex_value(alloc, &key.0)?,
         "lamports": account.lamports,
-        "owner": owner,
+        "owner": hex_value(alloc, &account.owner.0)?,
     })
 }
 
@@ -82,12 +80,10 @@ fn limits_value(alloc: Global, limits: &Limits) -> Result<Value, AllocError>
 fn first_value(alloc: Global, snapshot: &Snapshot) -> Result<Value, AllocError>
     ensures { IfOk result (λ v. view v ≡ snapshot_json_one snapshot.now) }
 {
-    let accounts = accounts_value(alloc, &snapshot.accounts)?;
-    let recent = list_value::<Marks>(alloc, snapshot.recent.marks())?;
     json!(in alloc; {
-        "accounts": accounts,
+        "accounts": accounts_value(alloc, &snapshot.accounts)?,
         "format": 1u64,
-        "recent": recent,
+        "recent": list_value::<Marks>(alloc, snapshot.recent.marks())?,
         "slot": snapshot.slot,
     })
 }
@@ -95,14 +91,11 @@ fn first_value(alloc: Global, snapshot: &Snapshot) -> Result<Value, AllocError>
 fn second_value(alloc: Global, snapshot: &Snapshot) -> Result<Value, AllocError>
     ensures { IfOk result (λ v. view v ≡ snapshot_json_two snapshot.now) }
 {
-    let accounts = accounts_value(alloc, &snapshot.accounts)?;
-    let limits = limits_value(alloc, &snapshot.limits)?;
-    let recent = list_value::<Marks>(alloc, snapshot.recent.marks())?;
     json!(in alloc; {
-        "accounts": accounts,
+        "accounts": accounts_value(alloc, &snapshot.accounts)?,
         "format": 2u64,
-        "limits": limits,
-        "recent": recent,
+        "limits": limits_value(alloc, &snapshot.limits)?,
+        "recent": list_value::<Marks>(alloc, snapshot.recent.marks())?,
         "slot": snapshot.slot,
     })
 }
