@@ -27,15 +27,12 @@ fn priced_value(
 ) -> Result<Value, AllocError> {
     let fee = fee(message, budget);
     let rank = priority(&fee, budget);
-    let instructions = instructions_value(alloc, message)?;
-    let name = hex_value(alloc, &name.0)?;
-    let priority = format!(in alloc; "{rank}")?;
     json!(in alloc; {
         "fee": {"priority": fee.priority, "signatures": fee.base},
-        "instructions": instructions,
-        "message": name,
+        "instructions": instructions_value(alloc, message)?,
+        "message": hex_value(alloc, &name.0)?,
         "price": budget.price,
-        "priority": priority,
+        "priority": format!(in alloc; "{rank}")?,
         "units": budget.limit,
     })
 }
@@ -47,9 +44,11 @@ fn refused_value(
     name: &Hash32,
     why: String,
 ) -> Result<Value, AllocError> {
-    let instructions = instructions_value(alloc, message)?;
-    let name = hex_value(alloc, &name.0)?;
-    json!(in alloc; {"instructions": instructions, "message": name, "refused": why})
+    json!(in alloc; {
+        "instructions": instructions_value(alloc, message)?,
+        "message": hex_value(alloc, &name.0)?,
+        "refused": why,
+    })
 }
 
 fn tx_value(alloc: Global, tx: &Tx, name: &Hash32) -> Result<Value, AllocError>
