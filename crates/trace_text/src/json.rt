@@ -47,11 +47,9 @@ fn held_value(frames: &Frames<'_>, began: &Began, meta: &Meta) -> Result<Value, 
 fn meta_value(frames: &Frames<'_>, began: &Began, meta: &Meta) -> Result<Value, AllocError> {
     let alloc = frames.alloc;
     let key = frames.key(meta.index);
-    let named = hex_value(alloc, &key.0)?;
-    let held = held_value(frames, began, meta)?;
     json!(in alloc; {
-        "account": held,
-        "key": named,
+        "account": held_value(frames, began, meta)?,
+        "key": hex_value(alloc, &key.0)?,
         "signer": meta.signer,
         "writable": meta.writable,
     })
@@ -68,15 +66,12 @@ fn metas_value(frames: &Frames<'_>, began: &Began) -> Result<Value, AllocError> 
 /// A frame that begins.
 fn begin_value(frames: &Frames<'_>, began: &Began) -> Result<Value, AllocError> {
     let alloc = frames.alloc;
-    let accounts = metas_value(frames, began)?;
-    let data = hex_value(alloc, began.data.as_slice())?;
-    let program = hex_value(alloc, &began.program.0)?;
     json!(in alloc; {
-        "accounts": accounts,
-        "data": data,
+        "accounts": metas_value(frames, began)?,
+        "data": hex_value(alloc, began.data.as_slice())?,
         "event": "begin",
         "height": began.height,
-        "program": program,
+        "program": hex_value(alloc, &began.program.0)?,
         "units": began.units,
     })
 }
@@ -135,11 +130,10 @@ fn access_value(frames: &Frames<'_>, finished: &Finished) -> Result<Value, OutOf
     let Some(refused) = stopped.access else {
         return Ok(Value::Null);
     };
-    let place = place_of(alloc, began, frames.listing.len, refused.addr)?;
     Ok(json!(in alloc; {
         "address": refused.addr,
         "length": refused.len,
-        "where": place,
+        "where": place_of(alloc, began, frames.listing.len, refused.addr)?,
         "write": refused.write,
     })?)
 }
@@ -226,14 +220,12 @@ fn end_value(
         Some(after) => changes_value(frames, began, after)?,
         None => Value::Array(Vec::new(alloc)),
     };
-    let status = result_value(alloc, &finished.result)?;
-    let returned = returned_value(alloc, began, finished)?;
     Ok(json!(in alloc; {
         "changes": changes,
         "event": "end",
         "height": began.height,
-        "returned": returned,
-        "status": status,
+        "returned": returned_value(alloc, began, finished)?,
+        "status": result_value(alloc, &finished.result)?,
         "units": finished.units,
     })?)
 }

@@ -62,13 +62,11 @@ pub(crate) fn registers_value(alloc: Global, registers: &[u64]) -> Result<Value,
 pub(crate) fn account_value(alloc: Global, account: &Account) -> Result<Value, AllocError>
     ensures { IfOk result (λ v. view v ≡ account_json account.now) }
 {
-    let owner = hex_value(alloc, &account.owner.0)?;
-    let data = hex_value(alloc, account.bytes.as_slice())?;
     json!(in alloc; {
-        "data": data,
+        "data": hex_value(alloc, account.bytes.as_slice())?,
         "executable": account.executable,
         "lamports": account.lamports,
-        "owner": owner,
+        "owner": hex_value(alloc, &account.owner.0)?,
     })
 }
 
@@ -88,13 +86,11 @@ fn difference_value(alloc: Global, differs: Option<Difference>) -> Result<Value,
 pub(crate) fn found_value(alloc: Global, found: &Found) -> Result<Value, AllocError>
     ensures { IfOk result (λ v. view v ≡ found_json found.now) }
 {
-    let owner = hex_value(alloc, &found.owner.0)?;
-    let byte = difference_value(alloc, found.differs)?;
     json!(in alloc; {
-        "byte": byte,
+        "byte": difference_value(alloc, found.differs)?,
         "lamports": found.lamports,
         "length": found.len,
-        "owner": owner,
+        "owner": hex_value(alloc, &found.owner.0)?,
     })
 }
 
@@ -124,19 +120,13 @@ pub(crate) fn change_value(
     was: &Account,
     is: &Account,
 ) -> Result<Value, AllocError> {
-    let named = hex_value(alloc, &key.0)?;
-    let byte = byte_value(alloc, was, is)?;
-    let executable = json!(in alloc; [was.executable, is.executable])?;
-    let lamports = numbers_value(alloc, was.lamports, is.lamports)?;
-    let length = numbers_value(alloc, was.bytes.len() as u64, is.bytes.len() as u64)?;
-    let owner = keys_value(alloc, &was.owner, &is.owner)?;
     json!(in alloc; {
-        "byte": byte,
-        "executable": executable,
-        "key": named,
-        "lamports": lamports,
-        "length": length,
-        "owner": owner,
+        "byte": byte_value(alloc, was, is)?,
+        "executable": [was.executable, is.executable],
+        "key": hex_value(alloc, &key.0)?,
+        "lamports": numbers_value(alloc, was.lamports, is.lamports)?,
+        "length": numbers_value(alloc, was.bytes.len() as u64, is.bytes.len() as u64)?,
+        "owner": keys_value(alloc, &was.owner, &is.owner)?,
     })
 }
 
@@ -185,19 +175,16 @@ pub(crate) fn transaction_value(
     ensures { IfOk result (λ v. view v
         ≡ transaction_json entry chosen.now outcome.now (view events)) }
 {
-    let lines = list_value::<Lines>(alloc, outcome.lines.as_slice())?;
-    let signature = signature_value(alloc, chosen.tx.signatures.as_slice())?;
-    let status = status_value(alloc, &outcome.status)?;
     json!(in alloc; {
         "base_paid": outcome.base_paid,
         "entry": entry,
         "events": events,
         "limit": chosen.budget.limit,
-        "lines": lines,
+        "lines": list_value::<Lines>(alloc, outcome.lines.as_slice())?,
         "position": chosen.position,
         "priority_paid": outcome.priority_paid,
-        "signature": signature,
-        "status": status,
+        "signature": signature_value(alloc, chosen.tx.signatures.as_slice())?,
+        "status": status_value(alloc, &outcome.status)?,
         "units": outcome.units,
     })
 }
