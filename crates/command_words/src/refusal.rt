@@ -8,17 +8,34 @@ use command_parts::{Answer, WORDS_REFUSED, path_of};
 use sol_base::{Blob, OutOfMemory};
 use std::alloc::Global;
 
-/// The value of an option in the usage, behind a blank; nothing where the option has none.
-fn value_name<'a>(usage: &'a str, option: &str) -> &'a str {
-    let Some((_, behind)) = usage.split_once(option) else {
+/// What is before a character, or all where it is not there.
+fn before(text: &str, end: char) -> &str {
+    text.split_once(end).map_or(text, |parts| parts.0)
+}
+
+/// The name of an option's value in the usage; nothing where the option has none, or where it is no option.
+fn value_name<'a>(usage: &'a str, name: &str) -> &'a str {
+    if !name.starts_with("--") {
+        return "";
+    }
+    let Some((_, behind)) = usage.split_once(name) else {
         return "";
     };
-    let until_bracket = behind.split_once(']').map_or(behind, |parts| parts.0);
-    if until_bracket.starts_with(' ') {
-        until_bracket
-    } else {
-        ""
+    match behind.split_once(' ') {
+        Some(("", value)) => before(before(before(value, ' '), ']'), '|'),
+        _ => "",
     }
+}
+
+/// Adds a name, behind which stands that of its value.
+fn add_name(text: &mut String, usage: &str, name: &str) -> Result<(), OutOfMemory> {
+    text.push_str(name)?;
+    let value = value_name(usage, name);
+    if !value.is_empty() {
+        text.push_str(" ")?;
+        text.push_str(value)?;
+    }
+    Ok(())
 }
 
 /// The options of a command with their values, one behind the other.
@@ -29,8 +46,7 @@ fn options_text(alloc: Global, shape: &Shape<'_>) -> Result<String, OutOfMemory>
             if !text.is_empty() {
                 text.push_str(", ")?;
             }
-            text.push_str(name)?;
-            text.push_str(value_name(shape.usage, name))?;
+            add_name(&mut text, shape.usage, name)?;
         }
     }
     if text.is_empty() {
@@ -54,9 +70,9 @@ pub fn fault_text(
             format!(in alloc; "`{command}` has no option {name}; it has {options}")?
         }
         WordsFault::Missing { name } => {
-            let name = path_of(name);
-            let value = value_name(shape.usage, name);
-            format!(in alloc; "`{command}` needs {name}{value}")?
+            let mut wanted = String::new(alloc);
+            add_name(&mut wanted, shape.usage, path_of(name))?;
+            format!(in alloc; "`{command}` needs {wanted}")?
         }
         WordsFault::Surplus { word } => {
             let word = path_of(word);
